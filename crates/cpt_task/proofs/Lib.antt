@@ -1,0 +1,7 @@
+pub mod BuildingLemmas
+pub mod Changing
+pub mod Exact
+pub mod Lasting
+pub mod OptimalityLemmas
+pub mod Order
+pub mod Tests

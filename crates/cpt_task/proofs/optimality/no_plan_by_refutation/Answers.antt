@@ -1,0 +1,5 @@
+use Rattle.cpt_task.proofs.OptimalityLemmas.{by_all_refuted}
+use Rattle.cpt_task.proofs.optimality.no_plan_by_refutation.Goals as goal
+
+pub returns : goal.returns
+returns c = by_all_refuted

@@ -1,0 +1,21 @@
+//! Ground temporal tasks, plans, and the judge of plans.
+#![tactic(auto)]
+
+mod ids;
+mod list;
+mod memory;
+mod optimality;
+mod plan;
+mod span;
+mod steps;
+mod task;
+mod timeline;
+
+pub use ids::Ids;
+pub use list::{List, Name};
+pub use memory::{Limit, Memory};
+pub use optimality::{no_plan_by_refutation, optimality_by_refutation};
+pub use plan::{Occ, Verdict, interfere, judge};
+pub use span::Span;
+pub use steps::Steps;
+pub use task::{Action, BuildError, Task};
