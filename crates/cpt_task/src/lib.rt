@@ -2,9 +2,9 @@
 #![tactic(auto)]
 
 mod ids;
+mod laws;
 mod list;
 mod memory;
-mod optimality;
 mod plan;
 mod span;
 mod steps;
@@ -12,9 +12,9 @@ mod task;
 mod timeline;
 
 pub use ids::Ids;
+pub use laws::{no_plan_by_refutation, one_verdict, optimality_by_refutation};
 pub use list::{List, Name};
 pub use memory::{Limit, Memory};
-pub use optimality::{no_plan_by_refutation, optimality_by_refutation};
 pub use plan::{Occ, Verdict, interfere, judge};
 pub use span::Span;
 pub use steps::Steps;
