@@ -1,0 +1,5 @@
+pub mod Admissible
+pub mod Bounds
+pub mod Greatest
+pub mod Shapes
+pub mod Spans

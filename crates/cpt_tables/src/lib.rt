@@ -1,0 +1,16 @@
+//! Tables of lower bounds: how early two atoms can hold together, and how long after an action an atom can hold.
+#![tactic(auto)]
+
+mod dist_table;
+mod faults;
+mod pair_table;
+mod sets;
+mod spans;
+mod tables;
+
+pub use dist_table::DistTable;
+pub use faults::{DistFault, PairFault};
+pub use pair_table::PairTable;
+pub use sets::set_span;
+pub use spans::{add_spans, exceeds, greater_span, lesser_span};
+pub use tables::Tables;
