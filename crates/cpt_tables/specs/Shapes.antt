@@ -85,15 +85,18 @@ pub record FitsDists (t : TaskShape) (d : DistShape) : Type 0 where
   pub atoms : d.atoms ≡ length t.atoms
   pub small : (a p : ℕ) → a < d.actions → p < d.atoms → IsBelow 1000000000000000 (dist_at d a p)
 
--- the greatest value of the atom with one of the list, and 0 for an empty list
-abbrev pub most_with : PairShape → ℕ → List ℕ → Span
-most_with h p [] = At 0
-most_with h p (q ∷ qs) = span_max (pair_at h p q) (most_with h p qs)
+-- the greatest f over a list, and 0 for an empty one
+abbrev pub most_over : (ℕ → Span) → List ℕ → Span
+most_over f [] = At 0
+most_over f (x ∷ xs) = span_max (f x) (most_over f xs)
 
--- the greatest value of an atom of the first list with one of the second, and 0 where one is empty
+-- the greatest value of the atom with one of the list
+abbrev pub most_with : PairShape → List ℕ → ℕ → Span
+most_with h qs p = most_over (pair_at h p) qs
+
+-- the greatest value of an atom of the first list with one of the second
 abbrev pub most_across : PairShape → List ℕ → List ℕ → Span
-most_across h [] qs = At 0
-most_across h (p ∷ ps) qs = span_max (most_with h p qs) (most_across h ps qs)
+most_across h ps qs = most_over (most_with h qs) ps
 
 -- H of a set of atoms: the greatest value over all its pairs, an atom with itself included, and 0 for none
 abbrev pub set_span_of : PairShape → List ℕ → Span
@@ -101,5 +104,4 @@ set_span_of h ps = most_across h ps ps
 
 -- the greatest distance of the action to one of the atoms, and 0 for none
 abbrev pub most_dist : DistShape → ℕ → List ℕ → Span
-most_dist d a [] = At 0
-most_dist d a (p ∷ ps) = span_max (dist_at d a p) (most_dist d a ps)
+most_dist d a ps = most_over (dist_at d a) ps

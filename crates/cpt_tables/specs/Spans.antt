@@ -5,7 +5,6 @@ use Rattle.cpt_task.specs.declared.span.Span.TheVariants.{At, Never}
 infix 4 ◌≤ˢ◌
 infix 4 ◌<ˢ◌
 infixl 6 ◌+ˢ◌
-
 -- the first is no later than the second; Never is later than every moment
 abbrev pub ◌≤ˢ◌ : Span → Span → Type 0
 At a ≤ˢ At b = a ≤ b

@@ -28,12 +28,7 @@ impl Model for DistTable {
 
 impl DistTable {
     /// A table over so many actions and atoms with this value everywhere.
-    pub fn filled(
-        alloc: Global,
-        actions: u32,
-        atoms: u32,
-        value: Span,
-    ) -> Result<DistTable, Memory>
+    pub fn filled(alloc: Global, actions: u32, atoms: u32, value: Span) -> Result<DistTable, Memory>
         requires actions { actions ≤ 4096 }
         requires atoms { atoms ≤ 2048 }
         ensures table { IfOk result (λ table. table ≡ dists_of actions atoms value) }

@@ -12,7 +12,7 @@ use cpt_task::Span;
 pub fn span_with(pairs: &PairTable, p: u32, atoms: &[u32]) -> Span
     requires atom { p < pairs.now.atoms }
     requires atoms { All (λ q. q < pairs.now.atoms) atoms.now }
-    ensures { result ≡ most_with pairs.now p atoms.now }
+    ensures { result ≡ most_with pairs.now atoms.now p }
 {
     let mut most = Span::At(0);
     for q in atoms {
