@@ -4,5 +4,7 @@
 mod row;
 mod start;
 mod table;
+#[cfg(test)]
+mod tests;
 
 pub use table::dist_table;

@@ -6,5 +6,7 @@ mod limits;
 mod marks;
 mod rules;
 mod table;
+#[cfg(test)]
+mod tests;
 
 pub use table::pair_table;
