@@ -1,6 +1,6 @@
 //! A library in memory, with calls that are made to fail.
 
-ghost use Rattle.std.specs.Prelude.{◌≡◌, ◌⊎◌, ◌-◌, ◌^◌, ◌<◌, ◌≤◌, ◌==◌, length, Some, None, [], refl, IsTrue, IsOk, OnOk, OnErr, IfOk, IfSome};
+ghost use Rattle.std.specs.Prelude.{◌≡◌, ◌⊎◌, ◌+◌, ◌-◌, ◌^◌, ◌<◌, ◌≤◌, ◌==◌, length, Some, None, [], refl, IsTrue, IsOk, OnOk, OnErr, IfOk, IfSome};
 ghost use Rattle.cpt_io.specs.Meaning.{HasCause, Opens, MayHold, Lacks, Pulls};
 ghost use Rattle.cpt_io.specs.Entries.{held, next_call, pull_count};
 
@@ -89,6 +89,7 @@ impl Library for MemLibrary {
         ensures cause { HasCause (mem_faults self.old) (mem_faults self.new) result }
         ensures steady { IsTrue (mem_steady self.old) → IsTrue (mem_steady self.new) }
         ensures lacking { IsTrue (mem_steady self.old) → OnErr result (Lacks (mem_holds self.old) name.now) }
+        ensures raised { OnErr result (mem_faults self.new ≡ mem_faults self.old + 1) }
         ensures fails { OnErr result (IsFailing self.old ⊎ Lacks (mem_holds self.old) name.now) }
         ensures passes { OnOk result (¬ IsFailing self.old) }
         ensures calls { mem_calls self.new ≡ next_call (mem_calls self.old) }
@@ -124,6 +125,7 @@ impl Library for MemLibrary {
         ensures cause { HasCause (mem_faults self.old) (mem_faults self.new) result }
         ensures steady { IsTrue (mem_steady self.old) → IsTrue (mem_steady self.new) }
         ensures never { IsTrue (mem_steady self.old) → IsOk result }
+        ensures raised { OnErr result (mem_faults self.new ≡ mem_faults self.old + 1) }
         ensures fails { OnErr result (IsFailing self.old) }
         ensures passes { OnOk result (¬ IsFailing self.old) }
         ensures at_most { IfOk result (λ n. n ≤ mem_most self.old) }

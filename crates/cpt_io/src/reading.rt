@@ -7,7 +7,11 @@ ghost use Rattle.cpt_io.specs.Reading.{Reads};
 use crate::library::{Library, ReadError};
 use std::alloc::Global;
 
-/// Reads the file under the name to its end.
+/// Opens the name once and reads the file to its end, which is all of its bytes, at most `most`.
+///
+/// `TooLong` comes exactly where more than `most` bytes came. `Failed` comes only where a call on
+/// the library failed, and over a steady library exactly where the name is not held. `Memory`
+/// means want of memory.
 pub fn read_all<L: Library>(
     alloc: Global,
     lib: &mut L,

@@ -1,6 +1,6 @@
 //! A sink in memory.
 
-ghost use Rattle.std.specs.Prelude.{◌≡◌, ◌⊎◌, ◌+◌, ◌-◌, ◌^◌, ◌<◌, ◌≤◌, [], ◌++◌, length, vec_len, vec_capacity, Some, is_some, IsOk, IfOk, OnOk, OnErr};
+ghost use Rattle.std.specs.Prelude.{◌≡◌, ◌⊎◌, ◌+◌, ◌-◌, ◌^◌, ◌<◌, ◌≤◌, [], ◌++◌, length, take, vec_len, vec_capacity, Some, IsTrue, MatchBool, is_some, IsOk, IfOk, OnOk, OnErr};
 ghost use Rattle.std.specs.Io.KnownBytes.{append_known};
 ghost use Rattle.cpt_io.specs.Meaning.{HasCause, AppendsFront};
 ghost use Rattle.cpt_io.specs.Entries.{next_call};
@@ -65,6 +65,25 @@ fn append(bytes: &mut Vec<u8>, piece: &[u8])
     }
 }
 
+// Appends the part of the piece that fits in the room, and answers whether it was the whole.
+fn append_within(bytes: &mut Vec<u8>, room: usize, piece: &[u8]) -> bool
+    requires reserved { room ≤ vec_capacity bytes.old }
+    requires within { vec_len bytes.old ≤ room }
+    ensures whole { IsTrue result → bytes.new.items ≡ bytes.old.items ++ piece.now }
+    ensures part { bytes.new.items ≡ bytes.old.items ++ take (room - length bytes.old.items) piece.now }
+    ensures front { bytes.new.items ≡ take room (bytes.old.items ++ piece.now) }
+    ensures fits { MatchBool result (length bytes.old.items + length piece.now ≤ room) (room < length bytes.old.items + length piece.now) }
+    ensures capacity { vec_capacity bytes.old ≤ vec_capacity bytes.new }
+{
+    let space = room - bytes.len();
+    if space < piece.len() {
+        append(bytes, &piece[..space]);
+        return false;
+    }
+    append(bytes, piece);
+    true
+}
+
 impl Sink for MemSink {
     ghost use Rattle.cpt_io.specs.SinkInMemory.{mem_written, sink_faults, sink_calls, sink_fails, sink_room, IsFailingPut, HasRoom, FillsUp};
 
@@ -79,6 +98,7 @@ impl Sink for MemSink {
         ensures err { OnErr result (AppendsFront (mem_written self.old) (mem_written self.new) piece.now) }
         ensures told { is_some (mem_written self.new) ≡ is_some (mem_written self.old) }
         ensures cause { HasCause (sink_faults self.old) (sink_faults self.new) result }
+        ensures raised { OnErr result (sink_faults self.new ≡ sink_faults self.old + 1) }
         ensures fails { OnErr result (IsFailingPut self.old ⊎ FillsUp self.old self.new piece.now) }
         ensures nothing { IsFailingPut self.old → mem_written self.new ≡ mem_written self.old }
         ensures passes { OnOk result (¬ IsFailingPut self.old) }
@@ -93,13 +113,10 @@ impl Sink for MemSink {
             self.faults += 1;
             return Err(Failed);
         }
-        let space = self.room - self.bytes.len();
-        if space < piece.len() {
-            append(&mut self.bytes, &piece[..space]);
+        if !append_within(&mut self.bytes, self.room, piece) {
             self.faults += 1;
             return Err(Failed);
         }
-        append(&mut self.bytes, piece);
         Ok(())
     }
 }

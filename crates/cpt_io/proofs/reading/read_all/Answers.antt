@@ -1,4 +1,4 @@
-use Rattle.std.proofs.Common.{◌≡◌, ◌+◌, ◌-◌, ◌<◌, ◌++◌, length, take, vec_len, arith, length-append}
+use Rattle.std.proofs.Common.{◌≡◌, ◌-◌, ◌<◌, ◌++◌, length, take, vec_len, arith, length-append}
 use Rattle.std.proofs.lemmas.List.{length-take-le}
 use Rattle.cpt_io.proofs.Progress.{pulled, longer}
 use Rattle.cpt_io.proofs.reading.read_all.Goals as goal
