@@ -1,6 +1,6 @@
 //! Files to read from and an output to write to, by what is known of their bytes.
 
-ghost use Rattle.std.specs.Prelude.{◌≡◌, ◌-◌, ◌^◌, ◌<◌, ◌≤◌, ℕ, List, Bool, Option, None, length, IsTrue, is_some, IsSome, IsOk, IsErr, OnOk, OnErr, IfOk};
+ghost use Rattle.std.specs.Prelude.{◌≡◌, ◌-◌, ◌^◌, ◌<◌, ◌≤◌, ℕ, List, Bool, Option, None, length, IsTrue, is_some, IsSome, IsOk, OnOk, OnErr, IfOk};
 ghost use Rattle.std.specs.Io.KnownBytes.{append_known};
 ghost use Rattle.cpt_io.specs.Meaning.{Files, HasCause, Opens, MayHold, Lacks, Pulls, AppendsFront};
 

@@ -15,12 +15,17 @@ use cpt_task::Name;
 #[derive(Drop)]
 pub struct MemLibrary {
     files: Vec<(Name, Vec<u8>)>,
+    /// The numbers of the calls that fail.
     fail: Vec<u64>,
+    /// The most bytes that one pull gives.
     most: usize,
     calls: u64,
     faults: u64,
+    /// No pull has failed since the last file was opened.
     told: bool,
+    /// Where the opened file stands, past the end where none was opened.
     place: usize,
+    /// How many of its bytes were pulled.
     at: usize,
     ghost some: { 0 < most },
 }

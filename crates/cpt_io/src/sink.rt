@@ -1,6 +1,6 @@
 //! A sink in memory.
 
-ghost use Rattle.std.specs.Prelude.{◌≡◌, ◌⊎◌, ◌+◌, ◌-◌, ◌^◌, ◌<◌, ◌≤◌, [], ◌++◌, length, take, vec_len, vec_capacity, Some, IsTrue, MatchBool, is_some, IsOk, IfOk, OnOk, OnErr};
+ghost use Rattle.std.specs.Prelude.{◌≡◌, ◌⊎◌, ◌+◌, ◌-◌, ◌^◌, ◌<◌, ◌≤◌, [], ◌++◌, length, take, vec_len, vec_capacity, Some, IsTrue, MatchBool, is_some, IfOk, OnOk, OnErr};
 ghost use Rattle.std.specs.Io.KnownBytes.{append_known};
 ghost use Rattle.cpt_io.specs.Meaning.{HasCause, AppendsFront};
 ghost use Rattle.cpt_io.specs.Entries.{next_call};
@@ -18,6 +18,7 @@ use std::alloc::Global;
 pub struct MemSink {
     bytes: Vec<u8>,
     room: usize,
+    /// The numbers of the puts that fail.
     fail: Vec<u64>,
     calls: u64,
     faults: u64,
