@@ -26,10 +26,10 @@ depth_more bytes i lt = ap (depth_after 0) (take-suc bytes i 0 lt) ∙ depth_aft
 opens_over : (depth b : ℕ) → b ≡ 40 → depth_over depth b ≡ suc depth
 opens_over depth b e = rw (eq-eqb b 40 e) refl
 
-closes_over : (depth b : ℕ) → b ≡ 41 → depth_over depth b ≡ depth - 1
+pub closes_over : (depth b : ℕ) → b ≡ 41 → depth_over depth b ≡ depth - 1
 closes_over depth b e = subst (λ c. depth_over depth c ≡ depth - 1) (sym e) refl
 
-stays_over : (depth b : ℕ) → b ≢ 40 → b ≢ 41 → depth_over depth b ≡ depth
+pub stays_over : (depth b : ℕ) → b ≢ 40 → b ≢ 41 → depth_over depth b ≡ depth
 stays_over depth b no_open no_close = rw (ne_eqb b 40 no_open, ne_eqb b 41 no_close) refl
 
 -- a byte that is not 0 is in the text

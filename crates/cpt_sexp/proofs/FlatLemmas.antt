@@ -1,11 +1,10 @@
 use Rattle.std.proofs.Common.{◌≡◌, ℕ, zero, suc, ◌+◌, ◌-◌, ◌<◌, ◌≤◌, true, false, List, [], ◌∷◌, ◌++◌, length, get_or, Some, slice_get, All, refl, sym, ap, ◌∙◌, subst, arith, append_assoc, length-append}
 use Rattle.std.proofs.lemmas.Bool.{lt-ltb, le-ltb}
 use Rattle.std.proofs.lemmas.List.{append-nil}
-use Rattle.std.proofs.lemmas.List.Elements.{All-cons, All-nil, All-append}
 use Rattle.cpt_sexp.specs.declared.item.Item.{Item}
 use Rattle.cpt_sexp.specs.declared.item.Item.TheVariants.{Word, Group}
 use Rattle.cpt_sexp.specs.Bytes.{plain}
-use Rattle.cpt_sexp.specs.Flat.{flat, nested, front, back, Stands, IsPlaced, IsInRange}
+use Rattle.cpt_sexp.specs.Flat.{flat, nested, front, back, Stands, IsPlaced}
 use Rattle.cpt_sexp.specs.Grammar.{Spells}
 use Rattle.cpt_sexp.specs.Trees.{Trees, none, word, group, count}
 use Rattle.cpt_sexp.proofs.Context.{length-flat}
@@ -150,20 +149,3 @@ pub stands-flat : (trees : Trees) → Stands (flat 0 trees) 0 (length (flat 0 tr
 stands-flat trees =
     let e : 0 + count trees ≡ length (flat 0 trees) = omega (arith, length-flat 0 trees) in
     subst (λ n. Stands (flat 0 trees) 0 n trees) e (stands_at (flat 0 trees) [] [] 0 trees (sym (append-nil (flat 0 trees))) refl)
-
-ranges : (bytes items k low high : ℕ) (trees : Trees) → IsPlaced low high trees → high ≤ bytes → k + count trees ≤ items → All (IsInRange bytes items) (flat k trees)
-ranges bytes items k low high none p in_text in_list = All-nil (IsInRange bytes items)
-ranges bytes items k low high (word a b rest) p in_text in_list =
-    let forth = placed_forth b high rest p.2 in
-    All-cons (IsInRange bytes items) (Word a b) (flat (suc k) rest) (p.1, omega (arith, forth)) (ranges bytes items (suc k) b high rest p.2 in_text (omega arith))
-ranges bytes items k low high (group a b inside rest) p in_text in_list =
-    let n = suc (k + count inside) in
-    let forth = placed_forth b high rest p.3 in
-    All-cons (IsInRange bytes items) (Group a b n) (flat (suc k) inside ++ flat n rest) (p.1, omega (arith, forth), omega arith, omega arith)
-    (All-append (IsInRange bytes items) (flat (suc k) inside) (flat n rest)
-    (ranges bytes items (suc k) (suc a) (b - 1) inside p.2 (omega (arith, forth)) (omega arith))
-    (ranges bytes items n b high rest p.3 in_text (omega arith)))
-
--- the items of a flat list are in range
-pub ranges-flat : (bytes : ℕ) (trees : Trees) → IsPlaced 0 bytes trees → All (IsInRange bytes (length (flat 0 trees))) (flat 0 trees)
-ranges-flat bytes trees p = ranges bytes (length (flat 0 trees)) 0 0 bytes trees p (omega arith) (omega (arith, length-flat 0 trees))

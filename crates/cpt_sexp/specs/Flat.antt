@@ -1,6 +1,9 @@
-use Rattle.std.specs.Prelude.{suc, ◌≡◌, ℕ, ◌+◌, ◌-◌, ◌<◌, ◌≤◌, nat_lt, if◌then◌else◌, List, [], ◌∷◌, ◌++◌, slice_get, Some}
+use Rattle.std.specs.Prelude.{suc, ◌≡◌, ℕ, ◌+◌, ◌-◌, ◌<◌, ◌≤◌, nat_lt, if◌then◌else◌, List, [], ◌∷◌, ◌++◌, slice_get, Some, All, length, true}
+use Rattle.std.specs.Char.{to_ascii_lowercase}
+use Rattle.std.specs.List.{slice_range}
 use Rattle.cpt_sexp.specs.declared.item.Item.{Item}
 use Rattle.cpt_sexp.specs.declared.item.Item.TheVariants.{Word, Group}
+use Rattle.cpt_sexp.specs.Bytes.{is_letter}
 use Rattle.cpt_sexp.specs.Trees.{Trees, none, word, group, count}
 
 -- the trees as a flat list whose first item has this number: a group's items follow it
@@ -44,7 +47,13 @@ IsPlaced low high (word from to rest) = (low ≤ from) × (from < to) × IsPlace
 IsPlaced low high (group from to inside rest) =
     (low ≤ from) × (suc from < to) × IsPlaced (suc from) (to - 1) inside × IsPlaced to high rest
 
--- an item's bytes are in a text of so many bytes, and the next item's number is at most that of items
-abbrev pub IsInRange : (bytes items : ℕ) → Item → Type 0
-IsInRange bytes items (Word from to) = (from < to) × (to ≤ bytes)
-IsInRange bytes items (Group from to next) = (suc from < to) × (to ≤ bytes) × (0 < next) × (next ≤ items)
+-- a byte of a word of a text in lower case
+pub record IsWordByte (b : ℕ) : Type 0 where
+  pub letter : is_letter b ≡ true
+  pub lower : to_ascii_lowercase b ≡ b
+
+-- an item of a text whose forest has so many items: a word has bytes of words, a group has its parentheses, and
+-- its next item's number is at most that of items
+abbrev pub IsItemOf : (text : List ℕ) → (items : ℕ) → Item → Type 0
+IsItemOf text items (Word from to) = (from < to) × (to ≤ length text) × All IsWordByte (slice_range text from to)
+IsItemOf text items (Group from to next) = (suc from < to) × (to ≤ length text) × (0 < next) × (next ≤ items)

@@ -4,5 +4,6 @@ pub mod Faults
 pub mod Flat
 pub mod Grammar
 pub mod Parsing
+pub mod Printing
 pub mod Progress
 pub mod Trees

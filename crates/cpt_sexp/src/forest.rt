@@ -1,7 +1,7 @@
 //! A parsed text.
 
 ghost use Rattle.std.specs.Prelude.{◌≡◌, ◌≤◌, ◌^◌, length, map, All};
-ghost use Rattle.cpt_sexp.specs.Flat.{flat, IsInRange, Stands};
+ghost use Rattle.cpt_sexp.specs.Flat.{flat, IsItemOf, Stands};
 ghost use Rattle.cpt_sexp.specs.Grammar.{IsForest};
 ghost use Rattle.cpt_sexp.specs.Trees.{Trees};
 
@@ -35,7 +35,7 @@ impl Forest {
     pub fn items(&self) -> &[Item]
         ensures value { result.now ≡ flat 0 self.now.trees }
         ensures stand { Stands result.now 0 (length result.now) self.now.trees }
-        ensures ranges { All (IsInRange (length self.now.text) (length result.now)) result.now }
+        ensures of_text { All (IsItemOf self.now.text (length result.now)) result.now }
         ensures forest { IsForest self.now }
     {
         self.items.as_slice()
