@@ -1,12 +1,12 @@
-use Rattle.std.proofs.Common.{◌≡◌, ◌≢◌, ℕ, zero, suc, ◌+◌, ◌-◌, ◌<◌, ◌≤◌, ◌^◌, true, List, [], ◌∷◌, ◌++◌, length, get_or, refl, sym, ap, ◌∙◌, subst, arith, append_assoc, length-append}
+use Rattle.std.proofs.Common.{◌≡◌, ◌≢◌, ℕ, suc, ◌+◌, ◌<◌, ◌≤◌, true, List, [], ◌∷◌, ◌++◌, length, get_or, refl, sym, ap, ◌∙◌, subst, arith, append_assoc, length-append}
 use Rattle.std.proofs.lemmas.List.{append-nil}
 use Rattle.std.proofs.Math.ListN.{set, length-set}
 use Rattle.cpt_sexp.specs.declared.item.Item.{Item}
 use Rattle.cpt_sexp.specs.declared.item.Item.TheVariants.{Word, Group}
 use Rattle.cpt_sexp.specs.declared.reading.Opened.{Opened}
-use Rattle.cpt_sexp.specs.Bytes.{plain, is_blank, is_letter}
+use Rattle.cpt_sexp.specs.Bytes.{plain, is_blank}
 use Rattle.cpt_sexp.specs.Flat.{flat}
-use Rattle.cpt_sexp.specs.Grammar.{IsGap, IsWord, Spells}
+use Rattle.cpt_sexp.specs.Grammar.{IsGap, IsWord}
 use Rattle.cpt_sexp.specs.Progress.{Around, outside, within, depth_of, written, opened, Begins, IsOutside, HasRead}
 use Rattle.cpt_sexp.specs.Trees.{Trees, none, word, group, count}
 use Rattle.cpt_sexp.proofs.Comments.{over_byte}

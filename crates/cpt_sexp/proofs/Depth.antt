@@ -1,14 +1,13 @@
-use Rattle.std.proofs.Common.{◌≡◌, ℕ, zero, suc, ◌+◌, ◌-◌, ◌<◌, ◌≤◌, ◌==◌, ◌≢◌, ◌&&◌, not, ◌⊎◌, inl, inr, Bool, true, false, cond, List, [], ◌∷◌, ◌++◌, length, get_or, take, drop, refl, sym, ap, ◌∙◌, subst, arith}
+use Rattle.std.proofs.Common.{◌≡◌, ℕ, zero, suc, ◌-◌, ◌<◌, ◌≤◌, ◌==◌, ◌≢◌, ◌&&◌, not, inl, inr, true, false, List, [], ◌∷◌, ◌++◌, length, get_or, take, refl, sym, ap, ◌∙◌, subst, arith}
 use Rattle.std.proofs.Math.Seq.{take-suc}
-use Rattle.std.proofs.lemmas.Bool.{cases_lt, cases_eq, eq-eqb, ne_eqb, eqb-true, and_parts, eqb-false}
+use Rattle.std.proofs.lemmas.Bool.{cases_lt, cases_eq, eq-eqb, ne_eqb, eqb-true, and_parts}
 use Rattle.std.proofs.lemmas.List.{get_or_past}
+use Rattle.cpt_sexp.specs.Progress.{empties}
 use Rattle.cpt_sexp.specs.Bytes.{is_blank, is_graphic, is_letter}
-use Rattle.cpt_sexp.specs.Grammar.{IsGap, IsWord, Spells}
+use Rattle.cpt_sexp.specs.Grammar.{Spells}
 use Rattle.cpt_sexp.specs.Trees.{Trees, none, word, group}
 use Rattle.cpt_sexp.proofs.Spelling.{spells_ordered}
-use Rattle.cpt_sexp.specs.Faults.{depth_over, depth_after, depth_at, empties, IsLeftOpen, IsFault, byte_of}
-use Rattle.cpt_sexp.specs.declared.item.SexpError.{SexpError}
-use Rattle.cpt_sexp.specs.declared.item.SexpError.TheVariants.{BadByte, Unopened, Unclosed, Deep, Memory}
+use Rattle.cpt_sexp.specs.Faults.{depth_over, depth_after, depth_at}
 
 -- where no group is open none is open at some place
 pub empties_at_once : (depth : ℕ) (bs : List ℕ) → depth ≡ 0 → empties depth bs ≡ true

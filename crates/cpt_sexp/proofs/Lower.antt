@@ -1,10 +1,10 @@
-use Rattle.std.proofs.Common.{◌≡◌, ◌≢◌, ℕ, zero, suc, ◌+◌, ◌<◌, ◌≤◌, ◌==◌, ◌⊎◌, inl, inr, Bool, true, false, List, [], ◌∷◌, length, get_or, map, refl, sym, ap, ◌∙◌, subst, arith}
+use Rattle.std.proofs.Common.{◌≡◌, ◌≢◌, ℕ, suc, ◌+◌, ◌<◌, ◌≤◌, ◌⊎◌, inl, inr, Bool, true, false, List, [], ◌∷◌, length, get_or, map, refl, sym, ap, ◌∙◌, subst, arith}
 use Rattle.std.proofs.Math.ListN.{get_or-map}
 use Rattle.std.proofs.lemmas.Bool.{cases_lt, cases_eq, eq-eqb, ne_eqb, le-leb}
 use Rattle.std.proofs.lemmas.List.{length-map}
 use Rattle.std.proofs.lemmas.Str.Ascii.{lowercase_is, lowercase-lowercase}
 use Rattle.std.specs.Char.{to_ascii_lowercase}
-use Rattle.cpt_sexp.specs.Bytes.{is_blank, is_graphic, is_letter, plain_from, plain}
+use Rattle.cpt_sexp.specs.Bytes.{is_blank, is_letter, plain_from, plain}
 use Rattle.cpt_sexp.specs.Grammar.{IsGap, IsWord, Spells, SpellsText}
 use Rattle.cpt_sexp.specs.Trees.{Trees, none, word, group}
 

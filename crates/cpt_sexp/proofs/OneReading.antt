@@ -1,14 +1,14 @@
-use Rattle.std.proofs.Common.{◌≡◌, ◌≢◌, ℕ, zero, suc, ◌+◌, ◌<◌, ◌≤◌, ◌⊎◌, inl, inr, ◌==◌, ◌||◌, Bool, true, false, List, length, get_or, refl, sym, ap, ◌∙◌, subst, arith}
-use Rattle.std.proofs.lemmas.Bool.{cases_lt, cases_order, cases_Bool, or_cases, eqb-true}
+use Rattle.std.proofs.Common.{◌≡◌, ◌≢◌, ℕ, suc, ◌≤◌, inl, inr, ◌==◌, ◌||◌, true, false, List, length, get_or, refl, sym, ap, ◌∙◌, subst, arith}
+use Rattle.std.proofs.lemmas.Bool.{cases_order, cases_Bool, or_cases, eqb-true}
 use Rattle.std.proofs.lemmas.List.{get_or_past}
 use Rattle.cpt_sexp.specs.declared.item.SexpError.{SexpError}
 use Rattle.cpt_sexp.specs.declared.item.SexpError.TheVariants.{BadByte, Unopened, Unclosed, Deep, Memory}
-use Rattle.cpt_sexp.specs.Bytes.{is_blank, is_graphic, is_letter, plain}
-use Rattle.cpt_sexp.specs.Faults.{depth_at, IsLeftOpen, IsFault, IsFirstFault, byte_of}
+use Rattle.cpt_sexp.specs.Bytes.{is_blank, is_letter, plain}
+use Rattle.cpt_sexp.specs.Faults.{IsFault}
 use Rattle.cpt_sexp.specs.Grammar.{IsGap, IsWord, Spells, SpellsText}
 use Rattle.cpt_sexp.specs.Trees.{Trees, none, word, group}
 use Rattle.cpt_sexp.proofs.Comments.{length-plain}
-use Rattle.cpt_sexp.proofs.Depth.{IsQuiet, spells_quiet, within_text, depth_more, depth_opens}
+use Rattle.cpt_sexp.proofs.Depth.{IsQuiet, spells_quiet, within_text}
 
 -- no item goes on at a place
 pub record IsEnd (bytes : List ℕ) (at : ℕ) : Type 0 where

@@ -1,4 +1,4 @@
-use Rattle.std.proofs.Common.{◌≡◌, ◌≢◌, Some, None, slice_get, length-drop, take_all, ℕ, zero, suc, ◌+◌, ◌-◌, ◌<◌, ◌≤◌, ◌==◌, ◌⊎◌, inl, inr, Bool, true, false, List, [], ◌∷◌, ◌++◌, length, get_or, take, drop, refl, sym, ap, ◌∙◌, subst, arith}
+use Rattle.std.proofs.Common.{◌≡◌, ◌≢◌, Some, None, slice_get, length-drop, take_all, ℕ, zero, suc, ◌+◌, ◌-◌, ◌<◌, ◌≤◌, inl, inr, true, false, List, [], ◌∷◌, ◌++◌, length, get_or, take, drop, refl, sym, ap, ◌∙◌, subst, arith}
 use Rattle.std.proofs.Math.Seq.{take-add}
 use Rattle.std.proofs.lemmas.Bool.{cases_lt, cases_eq, ne_eqb, eqb-false, eq-eqb}
 use Rattle.cpt_sexp.specs.declared.item.SexpError.{SexpError}
@@ -6,16 +6,16 @@ use Rattle.cpt_sexp.specs.declared.item.SexpError.TheVariants.{BadByte, Unopened
 use Rattle.cpt_sexp.specs.declared.item.Item.{Item}
 use Rattle.cpt_sexp.specs.Flat.{flat}
 use Rattle.cpt_sexp.specs.declared.reading.Opened.{Opened}
-use Rattle.cpt_sexp.specs.Bytes.{plain, plain_from}
-use Rattle.cpt_sexp.specs.Faults.{depth_over, depth_after, depth_at, empties, IsLeftOpen, IsFault, IsFirstFault, byte_of}
+use Rattle.cpt_sexp.specs.Bytes.{plain}
+use Rattle.cpt_sexp.specs.Faults.{depth_over, depth_after, depth_at, IsLeftOpen, IsFault, IsFirstFault, byte_of}
 use Rattle.cpt_sexp.specs.Parsing.{Refuses}
-use Rattle.cpt_sexp.specs.Progress.{Around, outside, within, depth_of, written, opened, Begins, IsOutside, HasRead}
+use Rattle.cpt_sexp.specs.Progress.{Around, outside, within, depth_of, written, opened, Begins, HasRead, empties}
 use Rattle.cpt_sexp.specs.Trees.{Trees}
 use Rattle.cpt_sexp.proofs.Comments.{length-plain}
 use Rattle.cpt_sexp.proofs.Context.{length-opened}
 use Rattle.cpt_sexp.specs.Grammar.{SpellsText}
 use Rattle.cpt_sexp.proofs.Spelling.{spells_ordered}
-use Rattle.cpt_sexp.proofs.Depth.{depth_after-append, depth_opens, IsSoundAt, IsQuiet, sound_open, spells_quiet, empties_somewhere}
+use Rattle.cpt_sexp.proofs.Depth.{depth_after-append, depth_opens, IsSoundAt, sound_open, spells_quiet, empties_somewhere}
 
 empties_later : (depth b : ℕ) (bs : List ℕ) → depth ≢ 0 → empties depth (b ∷ bs) ≡ empties (depth_over depth b) bs
 empties_later depth b bs ne = rw (ne_eqb depth 0 ne) refl

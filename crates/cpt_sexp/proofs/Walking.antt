@@ -1,4 +1,4 @@
-use Rattle.std.proofs.Common.{◌≡◌, ℕ, zero, suc, ◌<◌, ◌≤◌, List, Some, slice_get, refl, sym, ap, ◌∙◌, subst, arith}
+use Rattle.std.proofs.Common.{◌≡◌, ℕ, suc, ◌<◌, ◌≤◌, List, Some, slice_get, refl, sym, ap, ◌∙◌, subst, arith}
 use Rattle.cpt_sexp.specs.declared.item.Item.{Item}
 use Rattle.cpt_sexp.specs.declared.item.Item.TheVariants.{Word, Group}
 use Rattle.cpt_sexp.specs.Flat.{Stands}

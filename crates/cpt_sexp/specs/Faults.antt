@@ -1,4 +1,4 @@
-use Rattle.std.specs.Prelude.{suc, ◌≡◌, ℕ, ◌+◌, ◌-◌, ◌<◌, ◌≤◌, ◌==◌, Bool, true, false, if◌then◌else◌, List, [], ◌∷◌, length, take, slice_index}
+use Rattle.std.specs.Prelude.{suc, ◌≡◌, ℕ, ◌-◌, ◌<◌, ◌≤◌, ◌==◌, false, if◌then◌else◌, List, [], ◌∷◌, length, take, slice_index}
 use Rattle.cpt_sexp.specs.declared.item.SexpError.{SexpError}
 use Rattle.cpt_sexp.specs.declared.item.SexpError.TheVariants.{BadByte, Unopened, Unclosed, Deep, Memory}
 use Rattle.cpt_sexp.specs.Bytes.{is_blank, is_graphic, plain}
@@ -16,12 +16,13 @@ depth_after depth (b ∷ bs) = depth_after (depth_over depth b) bs
 abbrev pub depth_at : List ℕ → ℕ → ℕ
 depth_at bytes place = depth_after 0 (take place bytes)
 
--- at the place a group is opened, and it is open to the end
+-- at the place a group is opened, and it is open to the end of the text
 pub record IsLeftOpen (bytes : List ℕ) (place : ℕ) : Type 0 where
   pub opens : slice_index bytes place ≡ 40
   pub open_after : (k : ℕ) → place < k → k ≤ length bytes → depth_at bytes place < depth_at bytes k
 
--- a fault that the bytes before it and its own byte show stands at the place
+-- the fault stands in a text whose comments are blank: a byte that may not stand there, a closing parenthesis
+-- where no group is open, an opening one inside 64 groups, or the first one whose group is left open
 abbrev pub IsFault : List ℕ → SexpError → Type 0
 IsFault bytes (BadByte at) =
     (at < length bytes) × (is_blank (slice_index bytes at) ≡ false) × (is_graphic (slice_index bytes at) ≡ false)
@@ -42,8 +43,3 @@ byte_of Memory = 0
 pub record IsFirstFault (text : List ℕ) (fault : SexpError) : Type 0 where
   pub stands : IsFault (plain text) fault
   pub least : (other : SexpError) → IsFault (plain text) other → byte_of fault ≤ byte_of other
-
--- whether no group is open at some place of bytes, where so many are open before them
-abbrev pub empties : ℕ → List ℕ → Bool
-empties depth [] = depth == 0
-empties depth (b ∷ bs) = if depth == 0 then true else empties (depth_over depth b) bs

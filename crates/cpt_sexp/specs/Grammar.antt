@@ -1,4 +1,4 @@
-use Rattle.std.specs.Prelude.{suc, ◌≡◌, ℕ, ◌+◌, ◌<◌, ◌≤◌, ◌^◌, true, false, List, length, map, slice_index}
+use Rattle.std.specs.Prelude.{suc, ◌≡◌, ℕ, ◌<◌, ◌≤◌, ◌^◌, true, false, List, length, map, slice_index}
 use Rattle.std.specs.Char.{to_ascii_lowercase}
 use Rattle.cpt_sexp.specs.Bytes.{is_blank, is_letter, plain}
 use Rattle.cpt_sexp.specs.Trees.{Trees, none, word, group}

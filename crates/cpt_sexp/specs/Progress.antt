@@ -1,8 +1,9 @@
-use Rattle.std.specs.Prelude.{suc, ◌≡◌, ℕ, ◌<◌, ◌≤◌, false, List, [], ◌∷◌, ◌++◌, length, drop, slice_index}
+use Rattle.std.specs.Prelude.{suc, Bool, true, ◌==◌, if◌then◌else◌, ◌≡◌, ℕ, ◌<◌, ◌≤◌, false, List, [], ◌∷◌, ◌++◌, length, drop, slice_index}
 use Rattle.cpt_sexp.specs.declared.item.Item.{Item}
-use Rattle.cpt_sexp.specs.declared.item.Item.TheVariants.{Word, Group}
+use Rattle.cpt_sexp.specs.declared.item.Item.TheVariants.{Group}
 use Rattle.cpt_sexp.specs.declared.reading.Opened.{Opened}
 use Rattle.cpt_sexp.specs.Bytes.{plain, plain_from}
+use Rattle.cpt_sexp.specs.Faults.{depth_over}
 use Rattle.cpt_sexp.specs.Flat.{flat}
 use Rattle.cpt_sexp.specs.Grammar.{Spells}
 use Rattle.cpt_sexp.specs.Trees.{Trees}
@@ -50,3 +51,8 @@ pub record HasRead (text : List ℕ) (items : List Item) (open_groups : List Ope
   pub plainly : IsOutside text place
   pub few : length items ≤ place
   pub in_text : place ≤ length text
+
+-- whether no group is open at some place of bytes, where so many are open before them
+abbrev pub empties : ℕ → List ℕ → Bool
+empties depth [] = depth == 0
+empties depth (b ∷ bs) = if depth == 0 then true else empties (depth_over depth b) bs

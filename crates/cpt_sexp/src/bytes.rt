@@ -2,9 +2,8 @@
 
 ghost use Rattle.std.specs.Prelude.{◌≡◌, ◌+◌, ◌<◌, ◌≤◌, ◌^◌, true, false, length, drop, slice_index};
 ghost use Rattle.cpt_sexp.specs.Bytes.{is_blank, is_letter, plain, plain_from};
-ghost use Rattle.cpt_sexp.specs.Faults.{empties};
 ghost use Rattle.cpt_sexp.specs.Grammar.{IsGap, IsWord};
-ghost use Rattle.cpt_sexp.specs.Progress.{IsOutside};
+ghost use Rattle.cpt_sexp.specs.Progress.{IsOutside, empties};
 
 pub fn is_blank(b: u8) -> bool
     ensures { result ≡ is_blank b }

@@ -1,4 +1,4 @@
-use Rattle.std.proofs.Common.{◌≡◌, ◌+◌, ◌<◌, ℕ, suc, true, get_or, ap, ◌∙◌, arith, add-one, below_more, subst}
+use Rattle.std.proofs.Common.{ap, arith, add-one}
 use Rattle.cpt_sexp.specs.Bytes.{is_blank, plain}
 use Rattle.cpt_sexp.proofs.Comments.{over_comment}
 use Rattle.cpt_sexp.proofs.Spelling.{gap_more}

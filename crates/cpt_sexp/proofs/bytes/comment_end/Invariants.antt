@@ -1,4 +1,4 @@
-use Rattle.std.proofs.Common.{◌≡◌, ◌-◌, ◌≤◌, ℕ, true, length, drop}
+use Rattle.std.proofs.Common.{◌≡◌, ◌-◌, ◌≤◌, true, length, drop}
 use Rattle.cpt_sexp.specs.Bytes.{plain, plain_from}
 use Rattle.cpt_sexp.specs.Grammar.{IsGap}
 use Rattle.cpt_sexp.proofs.bytes.comment_end.Given as goal

@@ -1,4 +1,4 @@
-use Rattle.std.proofs.Common.{◌≡◌, sym, ◌∙◌, true, drop}
+use Rattle.std.proofs.Common.{sym, ◌∙◌, drop}
 use Rattle.cpt_sexp.specs.Bytes.{plain_from}
 use Rattle.cpt_sexp.proofs.Depth.{empties_at_once}
 use Rattle.cpt_sexp.proofs.bytes.runs_out.Goals as goal

@@ -1,6 +1,6 @@
 use Rattle.std.proofs.Common.{◌≡◌, ◌+◌, ◌≤◌, drop}
+use Rattle.cpt_sexp.specs.Progress.{empties}
 use Rattle.cpt_sexp.specs.Bytes.{plain_from, plain}
-use Rattle.cpt_sexp.specs.Faults.{empties}
 use Rattle.cpt_sexp.proofs.bytes.runs_out.Given as goal
 
 abbrev pub invariant-loop-b : goal.invariant-loop-b

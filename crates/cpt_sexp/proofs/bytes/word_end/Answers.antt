@@ -1,5 +1,5 @@
-use Rattle.std.proofs.Common.{◌≡◌, ◌+◌, ◌<◌, ◌≤◌, ℕ, suc, true, get_or, sym, ◌∙◌, arith, add-one}
-use Rattle.cpt_sexp.specs.Bytes.{is_letter, plain}
+use Rattle.std.proofs.Common.{sym, ◌∙◌, arith, add-one}
+use Rattle.cpt_sexp.specs.Bytes.{plain}
 use Rattle.cpt_sexp.proofs.Comments.{over_letter}
 use Rattle.cpt_sexp.proofs.Spelling.{letters_more, letters_none}
 use Rattle.cpt_sexp.proofs.bytes.word_end.Goals as goal

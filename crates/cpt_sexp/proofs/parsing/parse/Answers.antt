@@ -1,7 +1,6 @@
 use Rattle.std.proofs.Common.{◌≡◌, ◌≤◌, ◌^◌, ℕ, List, ◌∙◌, sym, ap, subst, arith, length, map}
 use Rattle.std.proofs.lemmas.List.{length-map}
 use Rattle.std.specs.Char.{to_ascii_lowercase}
-use Rattle.cpt_sexp.specs.Flat.{flat}
 use Rattle.cpt_sexp.specs.Grammar.{IsForest, ForestShape, SpellsText}
 use Rattle.cpt_sexp.specs.Trees.{Trees}
 use Rattle.cpt_sexp.proofs.Lower.{spells_lower, lower-lower}

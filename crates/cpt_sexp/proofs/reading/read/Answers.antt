@@ -1,4 +1,4 @@
-use Rattle.std.proofs.Common.{◌≡◌, ◌∙◌, sym, ap, arith, length, slice_get}
+use Rattle.std.proofs.Common.{◌∙◌, ap, slice_get}
 use Rattle.cpt_sexp.proofs.Context.{read_nothing}
 use Rattle.cpt_sexp.proofs.Refusing.{refuse_end, accept, no_first}
 use Rattle.cpt_sexp.proofs.reading.read.Goals as goal

@@ -1,6 +1,5 @@
 use Rattle.std.proofs.Common.{◌≡◌, List, ◌∙◌, sym, ap, subst, length, All}
 use Rattle.cpt_sexp.specs.declared.item.Item.{Item}
-use Rattle.cpt_sexp.specs.Bytes.{plain}
 use Rattle.cpt_sexp.specs.Flat.{flat, IsItemOf, Stands}
 use Rattle.cpt_sexp.specs.Grammar.{ForestShape, IsForest}
 use Rattle.cpt_sexp.proofs.FlatLemmas.{stands-flat}

@@ -1,8 +1,7 @@
-use Rattle.std.proofs.Common.{◌≡◌, ◌+◌, ◌≤◌, refl, ap, sym, ◌∙◌, subst, arith, add-one, length}
+use Rattle.std.proofs.Common.{◌≡◌, refl, ◌∙◌, arith, add-one, length}
 use Rattle.cpt_sexp.specs.declared.item.SexpError.TheVariants.{Unopened}
 use Rattle.cpt_sexp.specs.Bytes.{plain}
 use Rattle.cpt_sexp.specs.Faults.{depth_at}
-use Rattle.cpt_sexp.proofs.Comments.{length-plain}
 use Rattle.cpt_sexp.proofs.Context.{read_close, passed}
 use Rattle.cpt_sexp.proofs.Refusing.{open_at, refuse_alone}
 use Rattle.cpt_sexp.proofs.reading.Reading.close_group.Goals as goal

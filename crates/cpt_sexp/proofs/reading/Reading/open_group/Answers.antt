@@ -1,5 +1,4 @@
-use Rattle.std.proofs.Common.{◌≡◌, ◌++◌, ◌∷◌, [], ◌+◌, ◌≤◌, ap, sym, ◌∙◌, subst, arith, add-one, length}
-use Rattle.cpt_sexp.specs.declared.reading.Opened.{Opened}
+use Rattle.std.proofs.Common.{◌≡◌, ◌++◌, ◌∷◌, [], ap, ◌∙◌, arith, add-one, length}
 use Rattle.cpt_sexp.specs.Bytes.{plain}
 use Rattle.cpt_sexp.proofs.Context.{read_open, passed, length-opened}
 use Rattle.cpt_sexp.proofs.Refusing.{begins_clear}

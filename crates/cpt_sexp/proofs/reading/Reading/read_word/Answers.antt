@@ -1,4 +1,3 @@
-use Rattle.std.proofs.Common.{arith}
 use Rattle.cpt_sexp.proofs.Context.{read_word}
 use Rattle.cpt_sexp.proofs.reading.Reading.read_word.Goals as goal
 

@@ -1,5 +1,4 @@
-use Rattle.std.proofs.Common.{◌≡◌, ◌+◌, ◌-◌, ◌≤◌, ◌<◌, ℕ, true, refl, ap, sym, ◌∙◌, subst, arith, length, slice_get, take, drop, length-drop}
-use Rattle.cpt_sexp.proofs.Context.{length-opened}
+use Rattle.std.proofs.Common.{◌-◌, ap, sym, ◌∙◌, arith, length, slice_get, take, drop, length-drop}
 use Rattle.cpt_sexp.proofs.Refusing.{refuse_alone, refuse_fault, refuse_first, whole_rest, few_open, no_first}
 use Rattle.cpt_sexp.proofs.reading.Reading.refusal.Goals as goal
 

@@ -1,4 +1,4 @@
-use Rattle.std.proofs.Common.{◌≡◌, ◌+◌, ◌≤◌, ◌<◌, true, suc, ap, sym, ◌∙◌, subst, arith, add-one, length, get_or}
+use Rattle.std.proofs.Common.{◌+◌, suc, ap, sym, ◌∙◌, arith, add-one, get_or}
 use Rattle.cpt_sexp.specs.Bytes.{is_blank, plain}
 use Rattle.cpt_sexp.proofs.Comments.{over_byte, over_mark}
 use Rattle.cpt_sexp.proofs.Context.{read_gap, blank_no_mark}
