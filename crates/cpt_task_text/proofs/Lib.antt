@@ -1,0 +1,10 @@
+pub mod Acting
+pub mod Binding
+pub mod Feeding
+pub mod Heading
+pub mod Listing
+pub mod Naming
+pub mod Numerals
+pub mod Parts
+pub mod Steps
+pub mod Whole

@@ -1,0 +1,18 @@
+//! Tasks as text.
+#![tactic(auto)]
+
+mod actions;
+mod atoms;
+mod error;
+mod fields;
+mod lists;
+mod names;
+mod printing;
+mod reading;
+
+pub use error::TaskTextError;
+pub use printing::print_task;
+pub use reading::read_task;
+
+#[cfg(test)]
+mod tests;
