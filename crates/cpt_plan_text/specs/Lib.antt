@@ -1,0 +1,4 @@
+pub mod Grammar
+pub mod Knowing
+pub mod Meaning
+pub mod Parsing

@@ -1,0 +1,9 @@
+//! Plans as text: read leniently, and printed in one spelling.
+#![tactic(auto)]
+
+mod line;
+mod reading;
+mod roster;
+
+pub use reading::{PlanText, PlanTextError, read_plan};
+pub use roster::{Found, Roster};
