@@ -2,3 +2,4 @@ pub mod Grammar
 pub mod Knowing
 pub mod Meaning
 pub mod Parsing
+pub mod Spelling

@@ -2,8 +2,10 @@
 #![tactic(auto)]
 
 mod line;
+mod printing;
 mod reading;
 mod roster;
 
+pub use printing::print_plan;
 pub use reading::{PlanText, PlanTextError, read_plan};
 pub use roster::{Found, Roster};
