@@ -1,3 +1,4 @@
+pub mod Finding
 pub mod LineLemmas
 pub mod Passes
 pub mod PrintOrder

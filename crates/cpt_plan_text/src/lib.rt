@@ -1,11 +1,13 @@
 //! Plans as text: read leniently, and printed in one spelling.
 #![tactic(auto)]
 
+mod laws;
 mod line;
 mod printing;
 mod reading;
 mod roster;
 
+pub use laws::{tasks_find_first, tasks_know_actions};
 pub use printing::print_plan;
 pub use reading::{PlanText, PlanTextError, read_plan};
 pub use roster::{Found, Roster};
