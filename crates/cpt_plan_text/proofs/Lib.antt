@@ -1,5 +1,7 @@
 pub mod Finding
+pub mod LineBack
 pub mod LineLemmas
 pub mod Passes
+pub mod PlanBack
 pub mod PrintOrder
 pub mod Sound

@@ -1,7 +1,7 @@
-use Rattle.std.specs.Prelude.{◌≡◌, ℕ, ◌<◌, ◌≤◌, ◌⊎◌, List, ◌++◌, codes, Option, Result, Ok, Err}
+use Rattle.std.specs.Prelude.{◌≡◌, ℕ, ◌<◌, ◌≤◌, ◌⊎◌, List, ◌++◌, length, codes, Option, Result, Ok, Err}
 use Rattle.std.specs.Fmt.{decimal}
 use Rattle.std.specs.Io.KnownBytes.{append_known}
-use Rattle.std.specs.List.{AllPairs, flat_map}
+use Rattle.std.specs.List.{AllPairs, flat_map, range_with_len}
 use Rattle.std.specs.List.Sorted.{IsPermutation}
 use Rattle.cpt_io.specs.declared.library.PrintError.{PrintError}
 use Rattle.cpt_io.specs.declared.library.PrintError.TheVariants.{Failed, Memory}
@@ -9,6 +9,7 @@ use Rattle.cpt_io.specs.Meaning.{AppendsFront}
 use Rattle.cpt_task.specs.declared.plan.Occ.{Occ}
 use Rattle.cpt_task.specs.Shape.{TaskShape}
 use Rattle.cpt_task.specs.Timeline.{action_of}
+use Rattle.cpt_plan_text.specs.declared.reading.PlanText.{PlanText}
 
 -- the line of an occurrence, without its line feed: its start, its name, its duration
 abbrev pub spelled_line : TaskShape → Occ → List ℕ
@@ -42,3 +43,7 @@ abbrev pub CountsFaults : {T : Type 0} → ℕ → ℕ → Result T PrintError �
 CountsFaults before now (Ok x) = now ≡ before
 CountsFaults before now (Err Failed) = before < now
 CountsFaults before now (Err Memory) = now ≡ before
+
+-- the plan as its own text gives it, where the occurrences are printed in this order: they stand in lines 1, 2, 3 and so on
+abbrev pub in_lines : List Occ → PlanText
+in_lines plan = record { occs = plan; lines = range_with_len 1 (length plan) }

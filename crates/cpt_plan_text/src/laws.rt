@@ -1,10 +1,15 @@
 //! Laws on what tasks know and on plan texts.
 
-ghost use Rattle.std.specs.Prelude.{◌≡◌, ◌↔◌, ℕ, List, length};
+ghost use Rattle.std.specs.Prelude.{◌≡◌, ◌↔◌, ◌≤◌, ℕ, All, List, length, map};
+ghost use Rattle.cpt_line.specs.Names.{AreNames};
+ghost use Rattle.cpt_task.specs.declared.plan.Occ.{Occ};
 ghost use Rattle.cpt_task.specs.Building.{IsFirst};
-ghost use Rattle.cpt_task.specs.Shape.{TaskShape};
+ghost use Rattle.cpt_task.specs.Shape.{InBounds, TaskShape};
+ghost use Rattle.cpt_task.specs.Timeline.{IsPlan};
 ghost use Rattle.cpt_plan_text.specs.declared.roster.Found.TheVariants.{Known, Unreachable, Unknown};
 ghost use Rattle.cpt_plan_text.specs.Knowing.{HasName, KnowsActions, task_finds};
+ghost use Rattle.cpt_plan_text.specs.Meaning.{plan_of};
+ghost use Rattle.cpt_plan_text.specs.Spelling.{in_lines, plan_spelling};
 
 /// A task knows its actions and no others.
 pub fn tasks_know_actions()
@@ -16,5 +21,13 @@ pub fn tasks_know_actions()
 pub fn tasks_find_first()
     ensures known { (t : TaskShape) (name : List ℕ) (act : ℕ) → task_finds t name ≡ Known act ↔ IsFirst (HasName t.actions name) act }
     ensures unknown { (t : TaskShape) (name : List ℕ) → task_finds t name ≡ Unknown ↔ ((act : ℕ) → HasName t.actions name act → ⊥) }
+{
+}
+
+/// The text of occurrences that start at 1,000,000,000 at the latest is read over the task itself as the same
+/// occurrences, where the names of the task's actions are legal and distinct.
+pub fn printed_plans_read_back()
+    ensures { (t : TaskShape) (plan : List Occ) → InBounds t → AreNames (map (λ a. a.name) t.actions) → IsPlan t plan → All (λ o. o.start ≤ 1000000000) plan
+        → plan_of (task_finds t) t (plan_spelling t plan) ≡ Ok (in_lines plan) }
 {
 }
