@@ -11,3 +11,6 @@ pub use laws::{tasks_find_first, tasks_know_actions};
 pub use printing::print_plan;
 pub use reading::{PlanText, PlanTextError, read_plan};
 pub use roster::{Found, Roster};
+
+#[cfg(test)]
+mod tests;
