@@ -1,4 +1,4 @@
-use Rattle.std.proofs.Common.{◌≡◌, ℕ, zero, suc, ◌+◌, ◌*◌, ◌/◌, ◌%◌, ◌^◌, ◌<◌, ◌≤◌, min, Bool, true, false, not, ◌&&◌, ◌||◌, cond, eqb, leb, List, [], ◌∷◌, ◌++◌, length, take, drop, Option, None, Some, refl, sym, subst, ap, ◌∙◌, arith, append_assoc, inl, inr, ◌⊎◌}
+use Rattle.std.proofs.Common.{◌≡◌, ℕ, suc, ◌+◌, ◌%◌, ◌^◌, ◌<◌, min, Bool, true, false, ◌&&◌, cond, eqb, List, [], ◌∷◌, ◌++◌, length, take, drop, Option, None, Some, refl, sym, subst, ap, ◌∙◌, arith, inl, inr, ◌⊎◌}
 use Rattle.std.specs.Char.{is_ascii_digit}
 use Rattle.std.specs.Fmt.{decimal}
 use Rattle.std.specs.Str.Parse.{digits_value}
@@ -7,10 +7,9 @@ use Rattle.std.proofs.lemmas.Bool.Decides.{nat_tests}
 use Rattle.std.proofs.lemmas.Fmt.{decimal_by_steps, decimal_is_IsNumeral}
 use Rattle.std.proofs.Math.Seq.{take-append_seam, drop-append_seam}
 use Rattle.cpt_line.specs.Digits.{digit_count}
-use Rattle.cpt_line.specs.Lines.{split, glue}
+use Rattle.cpt_line.specs.Lines.{split}
 use Rattle.cpt_line.specs.Names.{word_byte, name_after, is_name}
-use Rattle.cpt_plan_text.specs.declared.line.Entry.{Entry}
-use Rattle.cpt_plan_text.specs.Grammar.{◌>>=◌, is_blank, skip_blanks, is_end, after_byte, after_fraction, number_in, lower, prefixed, spaced, name_rest, words_in, name_in, bracketed, bracket_by, duration_in, entry_in, line_in}
+use Rattle.cpt_plan_text.specs.Grammar.{◌>>=◌, is_blank, skip_blanks, is_end, after_byte, after_fraction, number_in, lower, spaced, name_rest, words_in, name_in, bracketed, duration_in, entry_in, line_in}
 
 -- digits alone
 abbrev Digits : List ℕ → Type 0
@@ -124,10 +123,10 @@ rest_back in_word [] rest h = absurd (false≢true h)
 rest_back in_word (b ∷ bs) rest h =
     let spaces = cond (eqb b 32) (in_word && name_after false bs) (word_byte b && name_after true bs) in
     elim (chosen (eqb b 41) (in_word && eqb (length bs) 0) spaces true h) [
-      inl p ↦ end_back in_word b bs rest p.0 p.1
-    | inr p ↦ elim (chosen (eqb b 32) (in_word && name_after false bs) (word_byte b && name_after true bs) true p.1) [
-        inl q ↦ space_back in_word b bs rest q.0 q.1 (rest_back false bs rest)
-      | inr q ↦ word_back in_word b bs rest q.1 (rest_back true bs rest)
+      | inl p ↦ end_back in_word b bs rest p.0 p.1
+      | inr p ↦ elim (chosen (eqb b 32) (in_word && name_after false bs) (word_byte b && name_after true bs) true p.1) [
+        | inl q ↦ space_back in_word b bs rest q.0 q.1 (rest_back false bs rest)
+        | inr q ↦ word_back in_word b bs rest q.1 (rest_back true bs rest)
       ]
     ]
 
@@ -136,10 +135,10 @@ first_byte : (b : ℕ) (bs : List ℕ) → name_after false (b ∷ bs) ≡ true 
 first_byte b bs h =
     let spaces = cond (eqb b 32) false (word_byte b && name_after true bs) in
     elim (chosen (eqb b 41) false spaces true h) [
-      inl p ↦ absurd (false≢true p.1)
-    | inr p ↦ elim (chosen (eqb b 32) false (word_byte b && name_after true bs) true p.1) [
-        inl q ↦ absurd (false≢true q.1)
-      | inr q ↦ and_true (word_byte b) (name_after true bs) q.1
+      | inl p ↦ absurd (false≢true p.1)
+      | inr p ↦ elim (chosen (eqb b 32) false (word_byte b && name_after true bs) true p.1) [
+        | inl q ↦ absurd (false≢true q.1)
+        | inr q ↦ and_true (word_byte b) (name_after true bs) q.1
       ]
     ]
 
@@ -216,10 +215,10 @@ NoFeed-name_after in_word [] h = tt
 NoFeed-name_after in_word (b ∷ bs) h =
     let spaces = cond (eqb b 32) (in_word && name_after false bs) (word_byte b && name_after true bs) in
     elim (chosen (eqb b 41) (in_word && eqb (length bs) 0) spaces true h) [
-      inl p ↦ (mark_is_no_feed b p.0, empty_after bs (and_true in_word (eqb (length bs) 0) p.1).1)
-    | inr p ↦ elim (chosen (eqb b 32) (in_word && name_after false bs) (word_byte b && name_after true bs) true p.1) [
-        inl q ↦ (space_is_no_feed b q.0, NoFeed-name_after false bs (and_true in_word (name_after false bs) q.1).1)
-      | inr q ↦ (word_is_no_feed b (and_true (word_byte b) (name_after true bs) q.1).0, NoFeed-name_after true bs (and_true (word_byte b) (name_after true bs) q.1).1)
+      | inl p ↦ (mark_is_no_feed b p.0, empty_after bs (and_true in_word (eqb (length bs) 0) p.1).1)
+      | inr p ↦ elim (chosen (eqb b 32) (in_word && name_after false bs) (word_byte b && name_after true bs) true p.1) [
+        | inl q ↦ (space_is_no_feed b q.0, NoFeed-name_after false bs (and_true in_word (name_after false bs) q.1).1)
+        | inr q ↦ (word_is_no_feed b (and_true (word_byte b) (name_after true bs) q.1).0, NoFeed-name_after true bs (and_true (word_byte b) (name_after true bs) q.1).1)
       ]
     ]
 

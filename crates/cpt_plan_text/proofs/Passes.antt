@@ -1,13 +1,9 @@
-use Rattle.std.proofs.Common.{◌≡◌, ℕ, ◌+◌, List, [], ◌∷◌, ◌++◌, Option, Result, Ok, Err, option_to_list, refl, sym, ap, ◌∙◌, append_assoc, append-nil}
+use Rattle.std.proofs.Common.{ℕ, List, ◌++◌, Result, Ok}
 use Rattle.cpt_task.specs.declared.plan.Occ.{Occ}
-use Rattle.cpt_task.specs.Shape.{TaskShape}
-use Rattle.cpt_line.specs.Lines.{split, EndsLine}
-use Rattle.cpt_plan_text.specs.declared.roster.Found.{Found}
 use Rattle.cpt_plan_text.specs.declared.reading.Item.{Item}
 use Rattle.cpt_plan_text.specs.declared.reading.PlanText.{PlanText}
 use Rattle.cpt_plan_text.specs.declared.reading.PlanTextError.{PlanTextError}
-use Rattle.cpt_plan_text.specs.declared.reading.PlanTextError.TheVariants as errors
-use Rattle.cpt_plan_text.specs.Meaning.{◌>>=◌, Fails, item_at, items_in, lines_of, occ_at, occs_of, put_first, with_item}
+use Rattle.cpt_plan_text.specs.Meaning.{◌>>=◌}
 
 -- the entries so far, and those to come
 abbrev pub with_items : List Item → Result (List Item) PlanTextError → Result (List Item) PlanTextError

@@ -1,24 +1,23 @@
-use Rattle.std.proofs.Common.{◌≡◌, ℕ, ◌+◌, ◌<◌, ◌≤◌, eqb, ltb, Bool, true, false, List, [], ◌∷◌, ◌++◌, length, map, get_or, All, Option, None, Some, Result, Ok, Err, refl, sym, subst, ap, ◌∙◌, arith, append_assoc}
+use Rattle.std.proofs.Common.{◌≡◌, ℕ, ◌+◌, ◌<◌, ◌≤◌, eqb, ltb, true, false, List, [], ◌∷◌, ◌++◌, length, map, get_or, All, None, Some, Result, Ok, refl, sym, subst, ap, ◌∙◌, arith, append_assoc}
 use Rattle.std.specs.List.{range_with_len}
 use Rattle.std.proofs.lemmas.Bool.Decides.{nat_tests}
 use Rattle.std.proofs.lemmas.List.{get_or-map, length-map}
 use Rattle.std.proofs.lemmas.List.Elements.{All-head, All-tail}
+use Rattle.std.proofs.lemmas.List.Sorted.{All-permutation}
+use Rattle.std.specs.List.Sorted.{IsPermutation}
 use Rattle.cpt_task.specs.declared.task.Action.{Action}
 use Rattle.cpt_task.specs.declared.plan.Occ.{Occ}
 use Rattle.cpt_task.specs.Shape.{TaskShape, InBounds}
 use Rattle.cpt_task.specs.Timeline.{IsOccurrence, IsPlan, action_of, idle}
-use Rattle.cpt_line.specs.Lines.{split}
 use Rattle.cpt_line.specs.Names.{AreNames, is_name}
 use Rattle.cpt_plan_text.specs.declared.roster.Found.{Found}
 use Rattle.cpt_plan_text.specs.declared.roster.Found.TheVariants.{Known}
-use Rattle.cpt_plan_text.specs.declared.line.Entry.{Entry}
 use Rattle.cpt_plan_text.specs.declared.reading.Item.{Item}
-use Rattle.cpt_plan_text.specs.declared.reading.PlanText.{PlanText}
 use Rattle.cpt_plan_text.specs.declared.reading.PlanTextError.{PlanTextError}
 use Rattle.cpt_plan_text.specs.Grammar.{line_in}
 use Rattle.cpt_plan_text.specs.Knowing.{task_finds}
-use Rattle.cpt_plan_text.specs.Meaning.{◌>>=◌, said_at, item_at, items_in, lines_of, occ_at, occs_of, plan_of, put_first, duration_of}
-use Rattle.cpt_plan_text.specs.Spelling.{spelled_line, plan_spelling, in_lines}
+use Rattle.cpt_plan_text.specs.Meaning.{◌>>=◌, said_at, item_at, items_in, lines_of, occ_at, occs_of, plan_of, duration_of}
+use Rattle.cpt_plan_text.specs.Spelling.{spelled_line, plan_spelling, in_lines, IsInPrintOrder, IsTextOf}
 use Rattle.cpt_plan_text.proofs.Finding.{first_known}
 use Rattle.cpt_plan_text.proofs.LineBack.{line_of_parts, line_back, line_first}
 
@@ -39,7 +38,7 @@ name_found : (t : TaskShape) (k : ℕ) → IsPlain t → k < length t.actions �
 name_found t k plain h =
     let few : k < length (map (λ (a : Action). a.name) t.actions) = simp length-map h in
     first_known t (get_or t.actions k idle).name k
-      (record { here = (h, refl); none_before = λ j lt other. plain.names.distinct j k lt few (name_at t j other.0 ∙ other.1 ∙ sym (name_at t k h)) })
+    (record { here = (h, refl); none_before = λ j lt other. plain.names.distinct j k lt few (name_at t j other.0 ∙ other.1 ∙ sym (name_at t k h)) })
 
 -- the entry of an occurrence that is printed in line k
 abbrev item_of : TaskShape → ℕ → Occ → Item
@@ -66,7 +65,7 @@ item_back : (t : TaskShape) (k : ℕ) (o : Occ) → IsPlain t → IsPrintable t 
 unfolding item_at
 item_back t k o plain printable =
     ap (said_at (task_finds t) t k) (ap line_in (parts_of t o)
-      ∙ line_back o.start (action_of t o).name (action_of t o).dur (omega (arith, printable.early)) (name_legal t o.act plain printable.within) (small_duration t o.act plain printable.within))
+    ∙ line_back o.start (action_of t o).name (action_of t o).dur (omega (arith, printable.early)) (name_legal t o.act plain printable.within) (small_duration t o.act plain printable.within))
     ∙ said_back t k o plain printable
 
 -- the entries of occurrences that are printed from line k on
@@ -123,3 +122,12 @@ read_back t plan plain printable =
 pub printed_back : (t : TaskShape) (plan : List Occ) → InBounds t → AreNames (map (λ a. a.name) t.actions) → IsPlan t plan → All (λ o. o.start ≤ 1000000000) plan → plan_of (task_finds t) t (plan_spelling t plan) ≡ Ok (in_lines plan)
 printed_back t plan bounds names of_task early =
     read_back t plan (record { bounds = bounds; names = names }) (λ k d lt. record { within = of_task k d lt; early = early k d lt })
+
+-- the printed text of a plan is read as the same occurrences in printed order
+pub text_back : (t : TaskShape) (plan : List Occ) (text : List ℕ) → InBounds t → AreNames (map (λ a. a.name) t.actions) → IsPlan t plan → All (λ o. o.start ≤ 1000000000) plan → IsTextOf t plan text
+    → (sorted : List Occ) × IsPermutation plan sorted × IsInPrintOrder sorted × (plan_of (task_finds t) t text ≡ Ok (in_lines sorted))
+text_back t plan text bounds names of_task early printed =
+    let sorted = printed.0 in
+    let same = printed.1 in
+    let read = printed_back t sorted bounds names (All-permutation (IsOccurrence t) plan sorted same of_task) (All-permutation (λ (o : Occ). o.start ≤ 1000000000) plan sorted same early) in
+    (sorted, same, printed.2, ap (plan_of (task_finds t) t) printed.3 ∙ read)

@@ -1,4 +1,4 @@
-use Rattle.std.proofs.Common.{◌≡◌, ℕ, zero, suc, ◌+◌, ◌<◌, ◌≤◌, ◌==◌, ltb, Bool, true, false, cond, List, [], ◌∷◌, ◌++◌, length, get_or, All, Option, None, Some, Result, Ok, Err, IfSome, IfOk, option_to_list, arith, add-one, length-append, refl, sym, subst, ap, ◌∙◌}
+use Rattle.std.proofs.Common.{◌≡◌, ℕ, zero, suc, ◌+◌, ◌<◌, ◌≤◌, ◌==◌, ltb, Bool, true, false, cond, List, [], ◌∷◌, ◌++◌, length, get_or, All, Option, None, Some, Result, Ok, Err, IfSome, IfOk, option_to_list, arith, add-one, length-append, refl, subst, ap}
 use Rattle.std.proofs.lemmas.Bool.{ltb-false}
 use Rattle.std.proofs.lemmas.List.Elements.{All-nil, All-cons, All-weaker}
 use Rattle.std.specs.List.Sorted.{IsStrictlyIncreasing}
@@ -95,7 +95,7 @@ items_found finds t n (line ∷ lines) items knows h =
     let q = rest.2 in
     let same : option_to_list first.0 ++ rest.0 ≡ items = cc in
     subst (IsFirstPass t n (suc (length lines))) same
-      (record { entries = put_entry t n first.0 rest.0 (item_entry finds t n line first.0 knows first.1) more.entries; few = few_more first.0 rest.0 (length lines) more.few })
+    (record { entries = put_entry t n first.0 rest.0 (item_entry finds t n line first.0 knows first.1) more.entries; few = few_more first.0 rest.0 (length lines) more.few })
 
 -- occurrences that can be judged and start early enough
 pub record IsEarly (t : TaskShape) (o : Occ) : Type 0 where

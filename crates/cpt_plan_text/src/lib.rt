@@ -7,7 +7,9 @@ mod printing;
 mod reading;
 mod roster;
 
-pub use laws::{tasks_find_first, tasks_know_actions};
+pub use laws::{
+    plans_have_one_text, printed_plans_read_back, tasks_find_first, tasks_know_actions,
+};
 pub use printing::print_plan;
 pub use reading::{PlanText, PlanTextError, read_plan};
 pub use roster::{Found, Roster};

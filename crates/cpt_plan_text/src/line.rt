@@ -78,13 +78,7 @@ fn after_byte(mark: u8, bytes: &[u8]) -> Option<&[u8]>
 {
     match skip_blanks(bytes) {
         [] => None,
-        [b, rest @ ..] => {
-            if *b == mark {
-                Some(rest)
-            } else {
-                None
-            }
-        }
+        [b, rest @ ..] => { if *b == mark { Some(rest) } else { None } }
     }
 }
 

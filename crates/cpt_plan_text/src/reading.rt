@@ -88,12 +88,7 @@ fn timed(number: u32, entry: &Entry, act: Option<u32>, right: u32) -> Result<Ite
     })
 }
 
-fn looked_up(
-    task: &Task,
-    number: u32,
-    entry: &Entry,
-    found: Found,
-) -> Result<Item, PlanTextError>
+fn looked_up(task: &Task, number: u32, entry: &Entry, found: Found) -> Result<Item, PlanTextError>
     requires { (act : ℕ) → found ≡ Found.Known act → act < length task.now.actions }
     ensures { Gives (λ item. item) result (looked_up task.now number entry.now found) }
 {

@@ -4,9 +4,7 @@ ghost use Rattle.std.specs.Prelude.{◌≡◌, ◌∷◌, [], IfOk, if◌then◌
 ghost use Rattle.std.specs.Str.{bytes_eq};
 ghost use Rattle.cpt_plan_text.specs.declared.roster.Found.TheVariants.{Unknown, Unreachable};
 
-use crate::{
-    Found, PlanText, PlanTextError, Roster, print_plan, read_plan, tasks_know_actions,
-};
+use crate::{Found, PlanText, PlanTextError, Roster, print_plan, read_plan, tasks_know_actions};
 use cpt_io::MemSink;
 use cpt_task::{Action, Ids, List, Memory, Name, Occ, Task};
 use std::alloc::{AllocError, Global};
@@ -41,7 +39,11 @@ fn two_actions(alloc: Global) -> Result<Task, Memory>
 {
     let atoms = Vec::from_array(
         alloc,
-        [name(alloc, "(r)")?, name(alloc, "(p)")?, name(alloc, "(q)")?],
+        [
+            name(alloc, "(r)")?,
+            name(alloc, "(p)")?,
+            name(alloc, "(q)")?,
+        ],
     )?;
     let a = Action {
         name: name(alloc, "(a)")?,
@@ -79,52 +81,73 @@ fn told(alloc: Global, read: &Result<PlanText, PlanTextError>) -> Result<String,
     }
 }
 
-const OVER_THE_TASK: [(&str, &str); 24] = [
-    ("", ""),
-    ("0: (a)\n5: (b)\n", "0@0#1 1@5#2 "),
-    ("0: (a)", "0@0#1 "),
-    ("0: (A)\n", "0@0#1 "),
-    ("0.000: (a) [5.0]\n005 : ( b )[ 3.00 ] ; late", "0@0#1 1@5#2 "),
-    ("\t0:(a)\r\n\r\n; x\n \t; x\n5:\t(B)\t[3]\r\n", "0@0#1 1@5#5 "),
-    ("0: (a) [0000000000000000000000000000000000000005]\n", "0@0#1 "),
-    ("0: (a) [1000000000000000000000000000000000000000]\n", "Duration(1, 5)"),
-    ("1000000000000000000000000000000000000000: (a)\n", "Limit(Start)"),
-    ("1000000000: (a)\n", "0@1000000000#1 "),
-    ("1000000001: (a)\n", "Limit(Start)"),
-    ("1000000001: (c)\n", "Unknown(1)"),
-    ("0.5: (a)\n", "Line(1)"),
-    ("5.: (a)\n", "Line(1)"),
-    ("0: ()\n", "Line(1)"),
-    ("0 (a)\n", "Line(1)"),
-    ("0: (a) x\n", "Line(1)"),
-    ("0: (a) [5\n", "Line(1)"),
-    ("0: (a]b[:)\n", "Unknown(1)"),
-    ("0: (a b)\n0 (a)\n", "Unknown(1)"),
-    ("0: (b) [4]\n", "Duration(1, 3)"),
-    ("0: (a) [4]\n0: (b) [4]\n", "Duration(1, 5)"),
-    ("0: (a) [4]\n0: (c)\n", "Unknown(2)"),
-    ("0: (c)\n0: (a) [4]\n", "Unknown(1)"),
-];
+// Plan texts over the two actions, and how they are read.
+fn over_the_task() -> [(&'static str, &'static str); 24] {
+    [
+        ("", ""),
+        ("0: (a)\n5: (b)\n", "0@0#1 1@5#2 "),
+        ("0: (a)", "0@0#1 "),
+        ("0: (A)\n", "0@0#1 "),
+        (
+            "0.000: (a) [5.0]\n005 : ( b )[ 3.00 ] ; late",
+            "0@0#1 1@5#2 ",
+        ),
+        (
+            "\t0:(a)\r\n\r\n; x\n \t; x\n5:\t(B)\t[3]\r\n",
+            "0@0#1 1@5#5 ",
+        ),
+        (
+            "0: (a) [0000000000000000000000000000000000000005]\n",
+            "0@0#1 ",
+        ),
+        (
+            "0: (a) [1000000000000000000000000000000000000000]\n",
+            "Duration(1, 5)",
+        ),
+        (
+            "1000000000000000000000000000000000000000: (a)\n",
+            "Limit(Start)",
+        ),
+        ("1000000000: (a)\n", "0@1000000000#1 "),
+        ("1000000001: (a)\n", "Limit(Start)"),
+        ("1000000001: (c)\n", "Unknown(1)"),
+        ("0.5: (a)\n", "Line(1)"),
+        ("5.: (a)\n", "Line(1)"),
+        ("0: ()\n", "Line(1)"),
+        ("0 (a)\n", "Line(1)"),
+        ("0: (a) x\n", "Line(1)"),
+        ("0: (a) [5\n", "Line(1)"),
+        ("0: (a]b[:)\n", "Unknown(1)"),
+        ("0: (a b)\n0 (a)\n", "Unknown(1)"),
+        ("0: (b) [4]\n", "Duration(1, 3)"),
+        ("0: (a) [4]\n0: (b) [4]\n", "Duration(1, 5)"),
+        ("0: (a) [4]\n0: (c)\n", "Unknown(2)"),
+        ("0: (c)\n0: (a) [4]\n", "Unknown(1)"),
+    ]
+}
 
-const OVER_THE_YARD: [(&str, &str); 5] = [
-    ("0: (z)\n", "Unreachable(1)"),
-    ("0: (z) [7]\n", "Unreachable(1)"),
-    ("0: (z) [6]\n", "Duration(1, 7)"),
-    ("0: (z)\n0: (z) [6]\n", "Unreachable(1)"),
-    ("0: (z)\n0: (y)\n", "Unknown(2)"),
-];
+// Plan texts over the yard, and how they are read.
+fn over_the_yard() -> [(&'static str, &'static str); 5] {
+    [
+        ("0: (z)\n", "Unreachable(1)"),
+        ("0: (z) [7]\n", "Unreachable(1)"),
+        ("0: (z) [6]\n", "Duration(1, 7)"),
+        ("0: (z)\n0: (z) [6]\n", "Unreachable(1)"),
+        ("0: (z)\n0: (y)\n", "Unknown(2)"),
+    ]
+}
 
 #[test]
 fn reads_plan_texts(rt: HostRuntime) -> Result<(), Fail> {
     let alloc = rt.alloc();
     let task = two_actions(alloc)?;
     tasks_know_actions();
-    for (text, wanted) in OVER_THE_TASK {
+    for (text, wanted) in over_the_task() {
         assert!(rt; text.len() < 100);
         let read = read_plan(alloc, &task, &task, text.as_bytes());
         assert_eq!(rt; told(alloc, &read)?.as_str(), wanted, "at {text}");
     }
-    for (text, wanted) in OVER_THE_YARD {
+    for (text, wanted) in over_the_yard() {
         assert!(rt; text.len() < 100);
         let read = read_plan(alloc, &task, &Yard, text.as_bytes());
         assert_eq!(rt; told(alloc, &read)?.as_str(), wanted, "at {text}");
