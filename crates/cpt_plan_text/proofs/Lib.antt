@@ -1,3 +1,4 @@
+pub mod FaultOrder
 pub mod Finding
 pub mod LineBack
 pub mod LineLemmas

@@ -7,7 +7,9 @@ ghost use Rattle.cpt_task.specs.declared.plan.Occ.{Occ};
 ghost use Rattle.cpt_task.specs.Building.{IsFirst};
 ghost use Rattle.cpt_task.specs.Shape.{InBounds, TaskShape};
 ghost use Rattle.cpt_task.specs.Timeline.{IsPlan};
+ghost use Rattle.cpt_plan_text.specs.declared.roster.Found.{Found};
 ghost use Rattle.cpt_plan_text.specs.declared.roster.Found.TheVariants.{Known, Unreachable, Unknown};
+ghost use Rattle.cpt_plan_text.specs.Faults.{FaultlessIsRead, FaultsComeFirst, LateFaultsComeNext};
 ghost use Rattle.cpt_plan_text.specs.Knowing.{HasName, KnowsActions, task_finds};
 ghost use Rattle.cpt_plan_text.specs.Meaning.{plan_of};
 ghost use Rattle.cpt_plan_text.specs.Spelling.{IsInPrintOrder, IsTextOf, in_lines, plan_spelling};
@@ -36,4 +38,13 @@ pub fn printed_plans_read_back()
         → plan_of (task_finds t) t (plan_spelling t plan) ≡ Ok (in_lines plan) }
     ensures printed { (t : TaskShape) (plan : List Occ) (text : List ℕ) → InBounds t → AreNames (map (λ a. a.name) t.actions) → IsPlan t plan → All (λ o. o.start ≤ 1000000000) plan → IsTextOf t plan text
         → (sorted : List Occ) × IsPermutation plan sorted × IsInPrintOrder sorted × (plan_of (task_finds t) t text ≡ Ok (in_lines sorted)) }
+{}
+
+/// Which fault a plan text is refused by. First the least line counts that is not in the grammar, has an unknown
+/// name or starts too late. Only where there is none, the least line with a wrong duration or an unreachable
+/// action counts.
+pub fn faults_come_in_order()
+    ensures first { (finds : List ℕ → Found) (t : TaskShape) (text : List ℕ) → FaultsComeFirst finds t text }
+    ensures second { (finds : List ℕ → Found) (t : TaskShape) (text : List ℕ) → LateFaultsComeNext finds t text }
+    ensures none { (finds : List ℕ → Found) (t : TaskShape) (text : List ℕ) → FaultlessIsRead finds t text }
 {}

@@ -8,7 +8,8 @@ mod reading;
 mod roster;
 
 pub use laws::{
-    plans_have_one_text, printed_plans_read_back, tasks_find_first, tasks_know_actions,
+    faults_come_in_order, plans_have_one_text, printed_plans_read_back, tasks_find_first,
+    tasks_know_actions,
 };
 pub use printing::print_plan;
 pub use reading::{PlanText, PlanTextError, read_plan};
