@@ -1,5 +1,6 @@
 pub mod FaultOrder
 pub mod Finding
+pub mod LetterCase
 pub mod LineBack
 pub mod LineLemmas
 pub mod OneText

@@ -10,6 +10,7 @@ ghost use Rattle.cpt_task.specs.Timeline.{IsPlan};
 ghost use Rattle.cpt_plan_text.specs.declared.roster.Found.{Found};
 ghost use Rattle.cpt_plan_text.specs.declared.roster.Found.TheVariants.{Known, Unreachable, Unknown};
 ghost use Rattle.cpt_plan_text.specs.Faults.{FaultlessIsRead, FaultsComeFirst, LateFaultsComeNext};
+ghost use Rattle.cpt_plan_text.specs.Grammar.{lower};
 ghost use Rattle.cpt_plan_text.specs.Knowing.{HasName, KnowsActions, task_finds};
 ghost use Rattle.cpt_plan_text.specs.Meaning.{plan_of};
 ghost use Rattle.cpt_plan_text.specs.Spelling.{IsInPrintOrder, IsTextOf, in_lines, plan_spelling};
@@ -47,4 +48,9 @@ pub fn faults_come_in_order()
     ensures first { (finds : List ℕ → Found) (t : TaskShape) (text : List ℕ) → FaultsComeFirst finds t text }
     ensures second { (finds : List ℕ → Found) (t : TaskShape) (text : List ℕ) → LateFaultsComeNext finds t text }
     ensures none { (finds : List ℕ → Found) (t : TaskShape) (text : List ℕ) → FaultlessIsRead finds t text }
+{}
+
+/// Letter case is ignored: a text is read as the same text in lower case.
+pub fn letter_case_is_ignored()
+    ensures { (finds : List ℕ → Found) (t : TaskShape) (text : List ℕ) → plan_of finds t (map lower text) ≡ plan_of finds t text }
 {}
