@@ -1,0 +1,6 @@
+pub mod Faults
+pub mod Grammar
+pub mod Knowing
+pub mod Meaning
+pub mod Parsing
+pub mod Spelling
