@@ -1,0 +1,8 @@
+//! Tasks and plans as text: the two readers and the two printers.
+#![tactic(auto)]
+
+pub use cpt_plan_text::{
+    Found, PlanText, PlanTextError, Roster, plans_have_one_text, print_plan,
+    printed_plans_read_back, read_plan, tasks_find_first, tasks_know_actions,
+};
+pub use cpt_task_text::{TaskTextError, print_task, read_task};
