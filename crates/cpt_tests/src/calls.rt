@@ -2,6 +2,7 @@
 
 ghost use Rattle.std.specs.Prelude.{◌≡◌, IfOk};
 
+use crate::counting::{CountingLibrary, CountingSink};
 use crate::plans::{ASKED, SHARED};
 use crate::scene::{Case, expect, library, output, words_of};
 use cpt_io::{Library, MemLibrary, MemSink};
@@ -37,10 +38,13 @@ fn a_file_that_is_not_held_cannot_be_read(rt: HostRuntime) -> Result<(), Fail> {
     expect(&rt, rt.alloc(), &faulty_task, 64)
 }
 
-/// Runs over a library in which one call fails, and says whether that call was made.
+/// Runs over a library in which one call fails, and says whether that call was made. It was the last one then.
 fn reads_fail_at(rt: &impl Abort, alloc: Global, call: u64) -> Result<bool, Fail> {
     let words = words_of(alloc, ASKED)?;
-    let mut lib = library(alloc, &[SHARED, PLAN], &[call], 64)?;
+    let mut lib = CountingLibrary {
+        inner: library(alloc, &[SHARED, PLAN], &[call], 64)?,
+        calls: 0,
+    };
     let mut out = output(alloc, &[])?;
     let status = run(alloc, &words, &mut lib, &mut out);
     if status == 0 {
@@ -48,6 +52,7 @@ fn reads_fail_at(rt: &impl Abort, alloc: Global, call: u64) -> Result<bool, Fail
         return Ok(false);
     }
     assert_eq!(rt; status, 7, "at call {call}");
+    assert_eq!(rt; lib.calls, call.saturating_add(1));
     assert_eq!(rt;
         out.written(),
         b"fault: read\n".as_slice(),
@@ -57,7 +62,7 @@ fn reads_fail_at(rt: &impl Abort, alloc: Global, call: u64) -> Result<bool, Fail
 }
 
 #[test]
-fn each_failing_read_is_answered(rt: HostRuntime) -> Result<(), Fail> {
+fn each_failing_read_is_the_last_call_and_is_answered(rt: HostRuntime) -> Result<(), Fail> {
     // The task has 112 bytes and the plan 14: two openings, three pulls of the task and two of the plan.
     for call in 0..7 {
         assert!(rt;
@@ -69,20 +74,34 @@ fn each_failing_read_is_answered(rt: HostRuntime) -> Result<(), Fail> {
     Ok(())
 }
 
+/// Runs these words over an output whose first write fails: it is the only one.
+fn writes_fail(rt: &impl Abort, alloc: Global, words: &[&str]) -> Result<(), Fail> {
+    let words = words_of(alloc, words)?;
+    let mut lib = library(alloc, &[SHARED, PLAN], &[], 64)?;
+    let mut failing = CountingSink {
+        inner: output(alloc, &[0])?,
+        calls: 0,
+    };
+    assert_eq!(rt; run(alloc, &words, &mut lib, &mut failing), 8);
+    assert_eq!(rt; failing.calls, 1);
+    assert_eq!(rt; failing.inner.written(), b"".as_slice());
+    Ok(())
+}
+
 #[test]
 fn a_failing_write_leaves_a_front(rt: HostRuntime) -> Result<(), Fail> {
     let alloc = rt.alloc();
+    // A result, the line of a fault of the words, and that of a file that is not held.
+    writes_fail(&rt, alloc, ASKED)?;
+    writes_fail(&rt, alloc, &["validate-task"])?;
+    writes_fail(&rt, alloc, &["validate-task", "t", "q"])?;
+    // An output that is full keeps what fits.
     let words = words_of(alloc, ASKED)?;
     let mut lib = library(alloc, &[SHARED, PLAN], &[], 64)?;
-    let mut failing = output(alloc, &[0])?;
-    assert_eq!(rt; run(alloc, &words, &mut lib, &mut failing), 8);
-    assert_eq!(rt; failing.written(), b"".as_slice());
-    // An output that is full keeps what fits.
     let Ok(mut full) = MemSink::new(alloc, 3, Vec::new(alloc)) else {
         return Err("memory")?;
     };
-    let mut again = library(alloc, &[SHARED, PLAN], &[], 64)?;
-    assert_eq!(rt; run(alloc, &words, &mut again, &mut full), 8);
+    assert_eq!(rt; run(alloc, &words, &mut lib, &mut full), 8);
     assert_eq!(rt; full.written(), b"val".as_slice());
     Ok(())
 }

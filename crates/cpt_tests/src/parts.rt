@@ -1,6 +1,6 @@
 //! The small types that the other crates stand on, at concrete types.
 
-use cpt_task::{Action, BuildError, Ids, List, Name, Occ, Task, Verdict, judge};
+use cpt_task::{Action, BuildError, Ids, List, Name, Task, interfere};
 use std::alloc::Global;
 use std::test::Fail;
 
@@ -45,6 +45,31 @@ fn task(alloc: Global, dur: u32, goal: u32) -> Result<Result<Task, BuildError>, 
         return Err("too many")?;
     }
     Ok(Task::build(atoms, actions, ids(alloc, &[])?, ids(alloc, &[goal])?))
+}
+
+fn action(alloc: Global, pre: &[u32], add: &[u32], dele: &[u32]) -> Result<Action, Fail> {
+    Ok(Action {
+        name: name(alloc, b"(a)")?,
+        dur: 1,
+        pre: ids(alloc, pre)?,
+        add: ids(alloc, add)?,
+        dele: ids(alloc, dele)?,
+    })
+}
+
+#[test]
+fn actions_interfere_where_one_disturbs_the_other(rt: HostRuntime) -> Result<(), Fail> {
+    let alloc = rt.alloc();
+    let user = action(alloc, &[0], &[1], &[])?;
+    let taker = action(alloc, &[0], &[2], &[0])?;
+    let adder = action(alloc, &[], &[0], &[])?;
+    assert!(rt; interfere(&user, &taker));
+    assert!(rt; interfere(&taker, &user));
+    assert!(rt; interfere(&taker, &taker));
+    assert!(rt; interfere(&adder, &taker));
+    assert!(rt; !interfere(&user, &user));
+    assert!(rt; !interfere(&user, &adder));
+    Ok(())
 }
 
 #[test]

@@ -2,6 +2,7 @@
 
 use crate::plans::ASKED;
 use crate::scene::{Case, expect};
+use std::alloc::{AllocError, Global};
 use std::test::Fail;
 
 /// A task text, and what is answered, whatever the plan.
@@ -72,6 +73,34 @@ const FAULTY: [Answered; 24] = [
         "fault: task line 6: line\n",
     ),
 ];
+
+/// A task of 65 atoms and an action that needs them all.
+fn long_list(alloc: Global) -> Result<String, AllocError> {
+    let mut text = String::from_str(alloc, "task 65 1\n")?;
+    for atom in 0..65 {
+        let line = format!(in alloc; "atom (g{atom})\n")?;
+        text.push_str(line.as_str())?;
+    }
+    text.push_str("action (a) 1\npre")?;
+    for atom in 0..65 {
+        let number = format!(in alloc; " {atom}")?;
+        text.push_str(number.as_str())?;
+    }
+    text.push_str("\nadd\ndel\ninit\ngoal\n")?;
+    Ok(text)
+}
+
+#[test]
+fn a_list_of_sixty_five_preconditions_passes_the_limit(rt: HostRuntime) -> Result<(), Fail> {
+    let text = long_list(rt.alloc())?;
+    let case = Case {
+        words: ASKED,
+        files: &[("t", text.as_str()), ("p", "")],
+        status: 6,
+        text: "fault: limit list\n",
+    };
+    expect(&rt, rt.alloc(), &case, 64)
+}
 
 #[test]
 fn the_first_faulty_line_of_a_task_is_answered(rt: HostRuntime) -> Result<(), Fail> {

@@ -12,7 +12,7 @@ use Rattle.cpt_top.specs.declared.ending.Ending.TheVariants.{Usage, Passed, Task
 use Rattle.cpt_top.specs.Ending.{Answer, answer_of}
 use Rattle.cpt_top.specs.Files.{task_under, plan_under}
 use Rattle.cpt_top.specs.Lines.{valid_line}
-use Rattle.cpt_top.specs.Commands.{AsksValidation, IsUsage, ComesTo, Answers, HoldValidPlan}
+use Rattle.cpt_top.specs.Commands.{AsksValidation, IsUsage, ComesTo, Answers, HoldValidPlan, OneAnswer}
 use Rattle.cpt_top.specs.Verdicts.{Then, AnswersVerdict, JudgesFiles, verdict_answer}
 
 -- words ask for one task
@@ -87,3 +87,7 @@ valid_is_zero files t p m h =
     let judged : AnswersVerdict h.task h.plan (Ok (record { status = 0; text = valid_line m })) = (Valid m, (h.valid, h.is), refl) in
     subst (λ (x : Result TaskShape Ending). Then x (λ task. Then (plan_under files task p) (AnswersVerdict task)) (Ok (record { status = 0; text = valid_line m }))) (sym h.task_file)
     (subst (λ (y : Result PlanText Ending). Then y (AnswersVerdict h.task) (Ok (record { status = 0; text = valid_line m }))) (sym h.plan_file) judged)
+
+-- words over files have at most one answer
+pub one_answer : OneAnswer
+one_answer files words a b h k = h.2 ∙ ap answer_of (comes_once files words h.0 k.0 h.1 k.1) ∙ sym k.2

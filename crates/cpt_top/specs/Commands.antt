@@ -49,3 +49,7 @@ pub record HoldValidPlan (files : Files) (task_name plan_name : List ℕ) (m : �
   pub plan_file : plan_under files task plan_name ≡ Ok plan
   pub valid : IsValid task plan.occs
   pub is : m ≡ makespan task plan.occs
+
+-- words over files have at most one answer
+abbrev pub OneAnswer : Type 0
+OneAnswer = (files : Files) (words : List (List ℕ)) (a b : Answer) → Answers files words a → Answers files words b → a ≡ b

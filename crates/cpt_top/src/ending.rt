@@ -31,6 +31,13 @@ pub enum Ending {
     Memory,
 }
 
+/// The lines that are written without taking memory.
+pub const USAGE_LINE: &str = "fault: usage\n";
+
+pub const READ_LINE: &str = "fault: read\n";
+
+pub const MEMORY_LINE: &str = "fault: memory\n";
+
 /// The exit status of an ending.
 pub fn status_of(ending: Ending) -> u8
     ensures { result ≡ ending_status ending }
@@ -73,10 +80,10 @@ pub fn line_of(alloc: Global, ending: Ending) -> Result<String, AllocError>
         Ending::TaskLine(line) => task_fault_line(alloc, line, "line"),
         Ending::PlanLine(line) => plan_fault_line(alloc, line, "line"),
         Ending::PlanUnknown(line) => plan_fault_line(alloc, line, "unknown"),
-        Ending::Usage => String::from_str(alloc, "fault: usage\n"),
+        Ending::Usage => String::from_str(alloc, USAGE_LINE),
         Ending::Passed(limit) => limit_line(alloc, word_of(limit)),
-        Ending::Read => String::from_str(alloc, "fault: read\n"),
-        Ending::Memory => String::from_str(alloc, "fault: memory\n"),
+        Ending::Read => String::from_str(alloc, READ_LINE),
+        Ending::Memory => String::from_str(alloc, MEMORY_LINE),
     }
 }
 

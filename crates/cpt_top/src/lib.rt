@@ -3,10 +3,12 @@
 
 mod ending;
 mod files;
+mod laws;
 mod printing;
 mod running;
 mod validating;
 mod verdicts;
 mod words;
 
+pub use laws::one_answer;
 pub use running::run;

@@ -2,10 +2,10 @@
 
 ghost use Rattle.std.specs.Prelude.{◌≡◌, ◌-◌, ◌^◌, ◌<◌};
 ghost use Rattle.cpt_top.specs.Ending.{ending_answer};
-ghost use Rattle.cpt_top.specs.Printing.{output, Writes, WritesAnswer};
+ghost use Rattle.cpt_top.specs.Printing.{memory_answer, output, Writes, WritesAnswer};
 ghost use Rattle.cpt_top.specs.Verdicts.{reply_answer};
 
-use crate::ending::{Ending, line_of, status_of};
+use crate::ending::{Ending, MEMORY_LINE, READ_LINE, USAGE_LINE, line_of, status_of};
 use crate::verdicts::Reply;
 use cpt_io::Sink;
 use std::alloc::Global;
@@ -40,9 +40,9 @@ pub fn put_ending<K: Sink>(alloc: Global, out: &mut K, ending: Ending) -> u8
     ensures usage { ending ≡ Ending.Usage → Writes (output (K.faults out.old) (K.written out.old)) (output (K.faults out.new) (K.written out.new)) (ending_answer ending) result }
 {
     match ending {
-        Ending::Usage => put_text(out, b"fault: usage\n", 5),
-        Ending::Read => put_text(out, b"fault: read\n", 7),
-        Ending::Memory => put_text(out, b"fault: memory\n", 9),
+        Ending::Usage => put_text(out, USAGE_LINE.as_bytes(), status_of(Ending::Usage)),
+        Ending::Read => put_text(out, READ_LINE.as_bytes(), status_of(Ending::Read)),
+        Ending::Memory => put_memory(out),
         _ => put_line(alloc, out, ending),
     }
 }
@@ -53,6 +53,14 @@ fn put_line<K: Sink>(alloc: Global, out: &mut K, ending: Ending) -> u8
 {
     match line_of(alloc, ending) {
         Ok(line) => put_text(out, line.as_bytes(), status_of(ending)),
-        Err(_) => put_text(out, b"fault: memory\n", 9),
+        Err(_) => put_memory(out),
     }
+}
+
+/// Writes that memory was refused, which takes none.
+fn put_memory<K: Sink>(out: &mut K) -> u8
+    requires { K.faults out.old < 2 ^ 64 - 1 }
+    ensures { Writes (output (K.faults out.old) (K.written out.old)) (output (K.faults out.new) (K.written out.new)) memory_answer result }
+{
+    put_text(out, MEMORY_LINE.as_bytes(), status_of(Ending::Memory))
 }
