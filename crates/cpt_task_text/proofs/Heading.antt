@@ -1,14 +1,14 @@
 -- The first line of a text, the lines of atoms and the lines of actions.
-use Rattle.std.proofs.Common.{◌≡◌, ℕ, zero, suc, ◌+◌, ◌≤◌, Bool, true, false, not, ◌&&◌, eqb, List, [], ◌∷◌, ◌++◌, length, map, Some, Result, Ok, refl, sym, ap, subst, ◌∙◌, append_assoc, append-nil, arith}
+use Rattle.std.proofs.Common.{◌≡◌, ℕ, zero, suc, ◌+◌, ◌≤◌, Bool, true, false, not, eqb, List, [], ◌∷◌, ◌++◌, length, map, Some, Result, Ok, refl, sym, ap, subst, ◌∙◌, append_assoc, append-nil, arith}
 use Rattle.std.specs.Prelude.{codes}
 use Rattle.std.specs.Fmt.{decimal}
-use Rattle.std.proofs.lemmas.Bool.{and_parts, and_from, not-true, not_from_false, eqb-true}
+use Rattle.std.proofs.lemmas.Bool.{not-true, eqb-true}
 use Rattle.std.proofs.lemmas.List.{nil_from_length}
 use Rattle.cpt_task.specs.declared.memory.Limit.TheVariants.{Atoms, Actions}
 use Rattle.cpt_line.specs.Digits.{number_in}
 use Rattle.cpt_line.specs.Names.{is_name}
 use Rattle.cpt_task_text.specs.declared.error.TaskTextError.{TaskTextError}
-use Rattle.cpt_task_text.specs.Reading.{◌>>=◌, Rest, line_at, past, checked, number_at, within, counts_in, is_among, atom_at, atoms_at}
+use Rattle.cpt_task_text.specs.Reading.{◌>>=◌, Rest, line_at, past, checked, number_at, within, counts_in, is_among, new_at, atom_at, atoms_at}
 use Rattle.cpt_task_text.specs.Spelling.{count_line, atom_line}
 use Rattle.cpt_task_text.proofs.Binding.{bind_ok, ok_is, past_takes, checked_ok, within_ok, within_again, found_ok, line_takes}
 use Rattle.cpt_task_text.proofs.Naming.{AreNew}
@@ -53,31 +53,26 @@ counts_again atoms actions few_atoms few_actions =
 
 -- ---- atoms
 
-pub record TakesAtom (seen : List (List ℕ)) (rest : Rest) (name : List ℕ) (after : Rest) : Type 0 where
+pub record TakesAtom (rest : Rest) (name : List ℕ) (after : Rest) : Type 0 where
   pub spelled : rest ≡ (atom_line name ∷ after.0, after.1)
   pub legal : is_name name ≡ true
-  pub new : is_among seen name ≡ false
 
-pub new_parts : (legal among : Bool) → (legal && not among) ≡ true → (legal ≡ true) × (among ≡ false)
-new_parts legal among h = let p = and_parts legal (not among) h in (p.0, not-true among p.1)
+pub new_ok : (n : ℕ) (seen : List (List ℕ)) (name : List ℕ) (x : Bool) → new_at n seen name ≡ Ok x → is_among seen name ≡ false
+new_ok n seen name x e = not-true (is_among seen name) (checked_ok (not (is_among seen name)) n x e)
 
-pub new_from : (legal among : Bool) → legal ≡ true → among ≡ false → (legal && not among) ≡ true
-new_from legal among h k = and_from legal (not among) h (not_from_false among k)
-
-pub atom_takes : (n : ℕ) (seen : List (List ℕ)) (rest : Rest) (x : List ℕ × Rest) → atom_at n seen rest ≡ Ok x → TakesAtom seen rest x.0 x.1
+pub atom_takes : (n : ℕ) (rest : Rest) (x : List ℕ × Rest) → atom_at n rest ≡ Ok x → TakesAtom rest x.0 x.1
 unfolding atom_at
-atom_takes n seen rest x e =
-    let a = bind_ok (line_at n rest) (λ line. past (codes "atom ") n line.0 >>= λ name. checked (is_name name && not (is_among seen name)) n >>= λ new. Ok (name, line.1)) x e in
-    let b = bind_ok (past (codes "atom ") n a.0.0) (λ name. checked (is_name name && not (is_among seen name)) n >>= λ new. Ok (name, a.0.1)) x a.2 in
-    let c = bind_ok (checked (is_name b.0 && not (is_among seen b.0)) n) (λ new. Ok (b.0, a.0.1)) x b.2 in
-    let p = new_parts (is_name b.0) (is_among seen b.0) (checked_ok _ n c.0 c.1) in
+atom_takes n rest x e =
+    let a = bind_ok (line_at n rest) (λ line. past (codes "atom ") n line.0 >>= λ name. checked (is_name name) n >>= λ legal. Ok (name, line.1)) x e in
+    let b = bind_ok (past (codes "atom ") n a.0.0) (λ name. checked (is_name name) n >>= λ legal. Ok (name, a.0.1)) x a.2 in
+    let c = bind_ok (checked (is_name b.0) n) (λ legal. Ok (b.0, a.0.1)) x b.2 in
     let made : List ℕ × Rest = (b.0, a.0.1) in
-    subst (λ (y : List ℕ × Rest). TakesAtom seen rest y.0 y.1) (ok_is made x c.2)
-    (record { spelled = line_takes n rest a.0 a.1 ∙ ap (λ (l : List ℕ). (l ∷ a.0.1.0, a.0.1.1)) (past_takes (codes "atom ") n a.0.0 b.0 b.1); legal = p.0; new = p.1 })
+    subst (λ (y : List ℕ × Rest). TakesAtom rest y.0 y.1) (ok_is made x c.2)
+    (record { spelled = line_takes n rest a.0 a.1 ∙ ap (λ (l : List ℕ). (l ∷ a.0.1.0, a.0.1.1)) (past_takes (codes "atom ") n a.0.0 b.0 b.1); legal = checked_ok _ n c.0 c.1 })
 
-pub atom_again : (n : ℕ) (seen : List (List ℕ)) (name : List ℕ) (lines : List (List ℕ)) (tail : List ℕ) → is_name name ≡ true → is_among seen name ≡ false → atom_at n seen (atom_line name ∷ lines, tail) ≡ Ok (name, (lines, tail))
+pub atom_again : (n : ℕ) (name : List ℕ) (lines : List (List ℕ)) (tail : List ℕ) → is_name name ≡ true → atom_at n (atom_line name ∷ lines, tail) ≡ Ok (name, (lines, tail))
 unfolding atom_at
-atom_again n seen name lines tail legal new = rw (legal, new) refl
+atom_again n name lines tail legal = rw legal refl
 
 pub record TakesAtoms (count : ℕ) (seen : List (List ℕ)) (rest : Rest) (whole : List (List ℕ)) (after : Rest) : Type 0 where
   pub names : List (List ℕ)
@@ -92,13 +87,14 @@ atoms_take zero n seen rest x e =
     let made : List (List ℕ) × Rest = (seen, rest) in
     subst (λ (y : List (List ℕ) × Rest). TakesAtoms 0 seen rest y.0 y.1) (ok_is made x e) (record { names = []; all = sym (append-nil seen); new = tt; spelled = refl; many = refl })
 atoms_take (suc count) n seen rest x e =
-    let a = bind_ok (atom_at n seen rest) (λ name. atoms_at count (n + 1) (seen ++ name.0 ∷ []) name.1) x e in
-    let first = atom_takes n seen rest a.0 a.1 in
-    let others = atoms_take count (n + 1) (seen ++ a.0.0 ∷ []) a.0.1 x a.2 in
+    let a = bind_ok (atom_at n rest) (λ name. new_at n seen name.0 >>= λ new. atoms_at count (n + 1) (seen ++ name.0 ∷ []) name.1) x e in
+    let b = bind_ok (new_at n seen a.0.0) (λ new. atoms_at count (n + 1) (seen ++ a.0.0 ∷ []) a.0.1) x a.2 in
+    let first = atom_takes n rest a.0 a.1 in
+    let others = atoms_take count (n + 1) (seen ++ a.0.0 ∷ []) a.0.1 x b.2 in
     record {
       names = a.0.0 ∷ others.names;
       all = others.all ∙ append_assoc seen (a.0.0 ∷ []) others.names;
-      new = (first.legal, first.new, others.new);
+      new = (first.legal, new_ok n seen a.0.0 b.0 b.1, others.new);
       spelled = first.spelled ∙ ap (λ (r : Rest). (atom_line a.0.0 ∷ r.0, r.1)) others.spelled;
       many = ap suc others.many;
     }
@@ -107,4 +103,4 @@ pub atoms_again : (names : List (List ℕ)) (n : ℕ) (seen lines : List (List �
 unfolding atoms_at
 atoms_again [] n seen lines tail new = ap (λ (x : List (List ℕ)). Ok (x, (lines, tail))) (sym (append-nil seen))
 atoms_again (name ∷ names) n seen lines tail new =
-    rw (atom_again n seen name (map atom_line names ++ lines) tail new.0 new.1) (atoms_again names (n + 1) (seen ++ name ∷ []) lines tail new.2 ∙ ap (λ (x : List (List ℕ)). Ok (x, (lines, tail))) (append_assoc seen (name ∷ []) names))
+    rw (atom_again n name (map atom_line names ++ lines) tail new.0, new.1) (atoms_again names (n + 1) (seen ++ name ∷ []) lines tail new.2 ∙ ap (λ (x : List (List ℕ)). Ok (x, (lines, tail))) (append_assoc seen (name ∷ []) names))

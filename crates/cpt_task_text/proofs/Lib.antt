@@ -6,5 +6,6 @@ pub mod Listing
 pub mod Naming
 pub mod Numerals
 pub mod Parts
+pub mod Sets
 pub mod Steps
 pub mod Whole

@@ -92,12 +92,12 @@ AreNew seen (name ∷ names) = (is_name name ≡ true) × (is_among seen name �
 
 apart_from_among : (seen : List (List ℕ)) (name : List ℕ) → is_among seen name ≡ false → (i : ℕ) → i < length seen → get_or seen i [] ≢ name
 apart_from_among seen name h i lt e =
-    false≢true (sym h ∙ list_any_at (λ other. bytes_eq other name) seen i [] lt (subst (λ (x : List ℕ). bytes_eq x name ≡ true) (sym e) (same_bytes name)))
+    false≢true (sym h ∙ list_any_at (bytes_eq name) seen i [] lt (subst (λ (x : List ℕ). bytes_eq name x ≡ true) (sym e) (same_bytes name)))
 
 among_from_apart : (seen : List (List ℕ)) (name : List ℕ) → ((i : ℕ) → i < length seen → get_or seen i [] ≢ name) → is_among seen name ≡ false
 among_from_apart [] name h = refl
 among_from_apart (other ∷ seen) name h =
-    or_from (bytes_eq other name) (is_among seen name) (false_from_ne_true _ (λ e. h 0 (omega arith) (eq_bytes other name e))) (among_from_apart seen name (λ i lt. h (suc i) (omega (arith, lt))))
+    or_from (bytes_eq name other) (is_among seen name) (false_from_ne_true _ (λ e. h 0 (omega arith) (sym (eq_bytes name other e)))) (among_from_apart seen name (λ i lt. h (suc i) (omega (arith, lt))))
 
 distinct_push : (seen : List (List ℕ)) (name : List ℕ) → AreNames seen → is_among seen name ≡ false → (i j : ℕ) → i < j → j < length (seen ++ name ∷ []) → get_or (seen ++ name ∷ []) i [] ≢ get_or (seen ++ name ∷ []) j []
 distinct_push seen name names h i j lt within e =

@@ -1,14 +1,10 @@
 use Rattle.std.proofs.Common.{◌≡◌, ◌≢◌, ℕ, ◌≤◌, Bool, true, false, cond, eqb, List, [], ◌∷◌, length, drop, None, Some, Err, refl, ap, length-drop, arith}
-use Rattle.std.specs.List.{list_any}
 use Rattle.std.proofs.lemmas.Bool.{eqb-true}
 use Rattle.std.proofs.lemmas.List.{nil_from_length}
-use Rattle.std.specs.Str.{bytes_eq}
-use Rattle.cpt_task.specs.declared.task.Action.{Action}
 use Rattle.cpt_line.specs.Digits.{digit_count, number_in}
 use Rattle.cpt_line.specs.Lines.{glue, split}
 use Rattle.cpt_task_text.specs.declared.error.TaskTextError.TheVariants as errors
-use Rattle.cpt_task_text.specs.Plain.{names_of}
-use Rattle.cpt_task_text.specs.Reading.{ends_at, is_among}
+use Rattle.cpt_task_text.specs.Reading.{ends_at}
 
 glued : (n b : ℕ) (p : List (List ℕ) × List ℕ) → ends_at n (glue (b ∷ []) p) ≡ Err (errors.Line n)
 glued n b ([], rest) = refl
@@ -34,11 +30,6 @@ number_shorter bytes n rest e =
     let p = some_or _ _ (n, rest) e in
     let same : drop (digit_count bytes) bytes ≡ rest = ap (λ (x : ℕ × List ℕ). x.1) p.1 in
     omega (arith, length-drop (digit_count bytes) bytes, ap length same)
-
--- a name among those of actions
-pub among_actions : (actions : List Action) (name : List ℕ) → list_any (λ a. bytes_eq a.name name) actions ≡ is_among (names_of actions) name
-among_actions [] name = refl
-among_actions (a ∷ actions) name = rw (among_actions actions name) refl
 
 pub not_empty : (xs : List ℕ) → eqb (length xs) 0 ≡ false → xs ≢ []
 not_empty [] h e = absurd (let z : ⊥ = cc in z)

@@ -14,6 +14,7 @@ use Rattle.cpt_task_text.specs.declared.error.TaskTextError.TheVariants as error
 use Rattle.cpt_task_text.specs.Plain.{names_of}
 
 infixl 10 ◌>>=◌
+-- one step of reading after another
 abbrev pub ◌>>=◌ : {A B : Type 0} → Result A TaskTextError → (A → Result B TaskTextError) → Result B TaskTextError
 (Ok x) >>= f = f x
 (Err e) >>= f = Err e
@@ -52,11 +53,12 @@ past front n bytes = if bytes_eq (take (length front) bytes) front then Ok (drop
 abbrev pub checked : Bool → ℕ → Result Bool TaskTextError
 checked good n = if good then Ok true else Err (errors.Line n)
 
--- a number of line n, or 1,000,000,001 where it is above 1,000,000,000, and what follows it
+-- what was found in line n
 abbrev pub found_at : ℕ → Option (ℕ × List ℕ) → Result (ℕ × List ℕ) TaskTextError
 found_at n None = Err (errors.Line n)
 found_at n (Some x) = Ok x
 
+-- a number of line n, or 1,000,000,001 where it is above 1,000,000,000, and what follows it
 abbrev pub number_at : ℕ → List ℕ → Result (ℕ × List ℕ) TaskTextError
 number_at n bytes = found_at n (number_in bytes)
 
@@ -78,21 +80,26 @@ counts_in line = do
 
 -- a name stands among others
 abbrev pub is_among : List (List ℕ) → List ℕ → Bool
-is_among names name = list_any (λ other. bytes_eq other name) names
+is_among names name = list_any (bytes_eq name) names
 
--- the name of an atom in line n, behind the names before it
-unfoldable pub atom_at : ℕ → List (List ℕ) → Rest → Result (List ℕ × Rest) TaskTextError
-atom_at n names rest = do
+-- a name in line n is none of those before it
+abbrev pub new_at : ℕ → List (List ℕ) → List ℕ → Result Bool TaskTextError
+new_at n names name = checked (not (is_among names name)) n
+
+-- the name of an atom in line n
+unfoldable pub atom_at : ℕ → Rest → Result (List ℕ × Rest) TaskTextError
+atom_at n rest = do
   line ← line_at n rest
   name ← past (codes "atom ") n line.0
-  new ← checked (is_name name && not (is_among names name)) n
+  legal ← checked (is_name name) n
   Ok (name, line.1)
 
 -- so many atoms from line n on, behind those before them
 unfoldable pub atoms_at : ℕ → ℕ → List (List ℕ) → Rest → Result (List (List ℕ) × Rest) TaskTextError
 atoms_at zero n names rest = Ok (names, rest)
 atoms_at (suc count) n names rest = do
-  name ← atom_at n names rest
+  name ← atom_at n rest
+  new ← new_at n names name.0
   atoms_at count (n + 1) (names ++ name.0 ∷ []) name.1
 
 -- a number of a list in line n, after a space, from least to below count
@@ -103,7 +110,7 @@ id_at n count least bytes = do
   fit ← checked (not (nat_lt number.0 least) && nat_lt number.0 count) n
   Ok number
 
--- the numbers of a list in line n, behind those before them; at most so many
+-- at most so many numbers of a list in line n, behind those before them
 unfoldable pub ids_in : ℕ → ℕ → ℕ → ℕ → List ℕ → List ℕ → Result (List ℕ) TaskTextError
 ids_in most n count least ids [] = Ok ids
 ids_in zero n count least ids (b ∷ bytes) = Err (errors.Line n)
@@ -111,7 +118,7 @@ ids_in (suc most) n count least ids (b ∷ bytes) = do
   id ← id_at n count least (b ∷ bytes)
   ids_in most n count (id.0 + 1) (ids ++ id.0 ∷ []) id.1
 
--- a line n with a keyword and strictly increasing numbers below count; a number takes at least two bytes
+-- line n: a keyword and strictly increasing numbers below count, of which each takes more than one byte
 unfoldable pub ids_at : ℕ → List ℕ → ℕ → Rest → Result (List ℕ × Rest) TaskTextError
 ids_at n keyword count rest = do
   line ← line_at n rest
@@ -131,31 +138,38 @@ abbrev pub name_length : List ℕ → ℕ
 name_length [] = 0
 name_length (b ∷ bytes) = if b == 41 then 1 else name_length bytes + 1
 
--- the name and the duration in the first line of an action, which is line n, behind the names before it
-unfoldable pub head_in : ℕ → List (List ℕ) → List ℕ → Result (List ℕ × ℕ) TaskTextError
-head_in n names line = do
+-- the name and the duration in the first line of an action, which is line n
+unfoldable pub head_in : ℕ → List ℕ → Result (List ℕ × ℕ) TaskTextError
+head_in n line = do
   bytes ← past (codes "action ") n line
-  new ← checked (is_name (take (name_length bytes) bytes) && not (is_among names (take (name_length bytes) bytes))) n
+  legal ← checked (is_name (take (name_length bytes) bytes)) n
   digits ← past (32 ∷ []) n (drop (name_length bytes) bytes)
   dur ← number_at n digits
   fit ← checked ((length dur.1 == 0) && nat_lt 0 dur.0 && nat_lt dur.0 100001) n
   Ok (take (name_length bytes) bytes, dur.0)
 
--- the action in four lines from line n on, behind the names before it
-unfoldable pub action_at : ℕ → ℕ → List (List ℕ) → Rest → Result (Action × Rest) TaskTextError
-action_at n count names rest = do
+-- the first line of an action, and what follows it
+unfoldable pub head_at : ℕ → Rest → Result ((List ℕ × ℕ) × Rest) TaskTextError
+head_at n rest = do
   line ← line_at n rest
-  head ← head_in n names line.0
-  pre ← short_ids_at (n + 1) (codes "pre") 64 count line.1
+  head ← head_in n line.0
+  Ok (head, line.1)
+
+-- the action of this name and duration, with the three lists behind its first line, which is line n
+unfoldable pub action_at : ℕ → ℕ → List ℕ × ℕ → Rest → Result (Action × Rest) TaskTextError
+action_at n count head rest = do
+  pre ← short_ids_at (n + 1) (codes "pre") 64 count rest
   add ← short_ids_at (n + 2) (codes "add") 128 count pre.1
   dele ← short_ids_at (n + 3) (codes "del") 128 count add.1
   Ok (record { name = head.0; dur = head.1; pre = pre.0; add = add.0; dele = dele.0 }, dele.1)
 
--- so many actions from line n on, behind those before them
+-- so many actions from line n on, four lines each, behind those before them
 unfoldable pub actions_at : ℕ → ℕ → ℕ → List Action → Rest → Result (List Action × Rest) TaskTextError
 actions_at zero n count actions rest = Ok (actions, rest)
 actions_at (suc more) n count actions rest = do
-  action ← action_at n count (names_of actions) rest
+  head ← head_at n rest
+  new ← new_at n (names_of actions) head.0.0
+  action ← action_at n count head.0 head.1
   actions_at more (n + 4) count (actions ++ action.0 ∷ []) action.1
 
 -- the number of the line of the initial list

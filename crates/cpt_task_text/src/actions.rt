@@ -2,29 +2,24 @@
 
 ghost use Rattle.std.specs.Prelude.{◌≡◌, ◌+◌, ◌*◌, ◌<◌, ◌^◌, [], vec_len, IfOk};
 ghost use Rattle.cpt_line.specs.Lines.{split};
-ghost use Rattle.cpt_task_text.specs.Plain.{names_of};
-ghost use Rattle.cpt_task_text.specs.Reading.{Gives, head_in, action_at, actions_at};
+ghost use Rattle.cpt_task_text.specs.Reading.{Gives, head_in, head_at, action_at, actions_at};
 
 use crate::error::TaskTextError;
 use crate::fields::{length_of_name, line_of, number_of, past};
 use crate::lists::short_ids_of;
-use crate::names::has_action;
 use cpt_line::is_spelled_name;
 use cpt_task::{Action, List};
 use std::alloc::Global;
+use std::collections::BTreeSet;
 
 /// The name and the duration in the first line of an action.
 #[tactic(auto, unfolding(crate::specs::Reading::head_in))]
-fn head_of<'a>(
-    number: u32,
-    actions: &[Action],
-    line: &'a [u8],
-) -> Result<(&'a [u8], u32), TaskTextError>
-    ensures { Gives (λ x. (x.0.now, x.1)) result (head_in number (names_of actions.now) line.now) }
+fn head_in(number: u32, line: &[u8]) -> Result<(&[u8], u32), TaskTextError>
+    ensures { Gives (λ x. (x.0.now, x.1)) result (head_in number line.now) }
 {
     let bytes = past(b"action ", number, line)?;
     let (name, rest) = bytes.split_at(length_of_name(bytes));
-    if !is_spelled_name(name) || has_action(actions, name) {
+    if !is_spelled_name(name) {
         return Err(TaskTextError::Line(number));
     }
     let digits = past(b" ", number, rest)?;
@@ -35,20 +30,30 @@ fn head_of<'a>(
     Ok((name, dur as u32))
 }
 
+#[tactic(auto, unfolding(crate::specs::Reading::head_at))]
+fn head_of(number: u32, text: &[u8]) -> Result<((&[u8], u32), &[u8]), TaskTextError>
+    ensures { Gives (λ x. ((x.0.0.now, x.0.1), split x.1.now)) result (head_at number (split text.now)) }
+{
+    let (line, rest) = line_of(number, text)?;
+    let head = head_in(number, line)?;
+    Ok((head, rest))
+}
+
+/// The action of this name and duration, with the three lists behind its first line.
 #[tactic(auto, unfolding(crate::specs::Reading::action_at))]
 fn action_of<'a>(
     alloc: Global,
     number: u32,
     count: u32,
-    actions: &[Action],
+    name: &[u8],
+    dur: u32,
     text: &'a [u8],
 ) -> Result<(Action, &'a [u8]), TaskTextError>
     requires { number + 4 < 2 ^ 32 }
-    ensures { Gives (λ x. (x.0, split x.1.now)) result (action_at number count (names_of actions.now) (split text.now)) }
+    ensures exact { Gives (λ x. (x.0, split x.1.now)) result (action_at number count (name.now, dur) (split text.now)) }
+    ensures name { IfOk result (λ x. x.0.name ≡ name.now) }
 {
-    let (line, rest) = line_of(number, text)?;
-    let (name, dur) = head_of(number, actions, line)?;
-    let (pre, rest) = short_ids_of(alloc, number + 1, b"pre", 64, count, rest)?;
+    let (pre, rest) = short_ids_of(alloc, number + 1, b"pre", 64, count, text)?;
     let (add, rest) = short_ids_of(alloc, number + 2, b"add", 128, count, rest)?;
     let (dele, rest) = short_ids_of(alloc, number + 3, b"del", 128, count, rest)?;
     let name = List::from_vec(Vec::from_slice(alloc, name)?);
@@ -77,10 +82,16 @@ pub fn actions_of(
     ensures many { IfOk result (λ x. vec_len x.0 ≡ more) }
 {
     let mut actions = Vec::new(alloc);
+    let mut seen = BTreeSet::new(alloc);
     let mut rest = text;
     let mut line = number;
     for _ in 0..more {
-        let (action, after) = action_of(alloc, line, count, &actions, rest)?;
+        let (head, lists) = head_of(line, rest)?;
+        let (name, dur) = head;
+        if !seen.insert(name)? {
+            return Err(TaskTextError::Line(line));
+        }
+        let (action, after) = action_of(alloc, line, count, name, dur, lists)?;
         actions.push(action)?;
         rest = after;
         line += 4;

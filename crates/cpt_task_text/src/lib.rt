@@ -6,7 +6,6 @@ mod atoms;
 mod error;
 mod fields;
 mod lists;
-mod names;
 mod printing;
 mod reading;
 
