@@ -248,8 +248,8 @@ rest_parts gap (b ∷ bs) name rest h =
         | inl q ↦ blank_parts gap b bs name rest q.0 (rest_parts true bs name rest q.1)
         | inr q ↦ elim (chosen (word_byte (lower b)) (prefixed (spaced gap (lower b)) (name_rest false bs)) None (Some (name, rest)) q.1) [
           | inl w ↦
-            let later = prefixed_parts (spaced gap (lower b)) (name_rest false bs) name rest w.1 in
-            word_parts gap b bs name rest later.0 w.0 (rest_parts false bs later.0 rest later.1) later.2
+              let later = prefixed_parts (spaced gap (lower b)) (name_rest false bs) name rest w.1 in
+              word_parts gap b bs name rest later.0 w.0 (rest_parts false bs later.0 rest later.1) later.2
           | inr w ↦ let no = w.1 in absurd (let z : ⊥ = cc in z)
         ]
       ]
@@ -261,8 +261,8 @@ words_parts [] name rest h = absurd (let z : ⊥ = cc in z)
 words_parts (b ∷ bs) name rest h =
     elim (chosen (word_byte (lower b)) (prefixed (40 ∷ lower b ∷ []) (name_rest false bs)) None (Some (name, rest)) h) [
       | inl w ↦
-        let later = prefixed_parts (40 ∷ lower b ∷ []) (name_rest false bs) name rest w.1 in
-        (b, bs, later.0, w.0, refl, later.2, rest_parts false bs later.0 rest later.1)
+          let later = prefixed_parts (40 ∷ lower b ∷ []) (name_rest false bs) name rest w.1 in
+          (b, bs, later.0, w.0, refl, later.2, rest_parts false bs later.0 rest later.1)
       | inr w ↦ let no = w.1 in absurd (let z : ⊥ = cc in z)
     ]
 
@@ -297,8 +297,7 @@ inside_parts bytes name rest h =
     let t = w.6 in
     let first = w.0 ∷ t.tail in
     let some : 0 < suc (length t.tail) = omega arith in
-    let inner : bytes ≡ s.blanks ++ (first ++ (words_written t.others ++ (t.back ++ 41 ∷ rest))) = s.whole ∙ ap (λ l. s.blanks ++ l) (w.4 ∙ ap (λ l. w.0 ∷ l) t.whole) in
-    (
+    let inner : bytes ≡ s.blanks ++ (first ++ (words_written t.others ++ (t.back ++ 41 ∷ rest))) = s.whole ∙ ap (λ l. s.blanks ++ l) (w.4 ∙ ap (λ l. w.0 ∷ l) t.whole) in (
       40 ∷ (s.blanks ++ (first ++ (words_written t.others ++ (t.back ++ 41 ∷ [])))),
       record {
         front = s.blanks;
@@ -312,7 +311,7 @@ inside_parts bytes name rest h =
         back_blank = t.back_blank;
         spells = w.5 ∙ ap (λ l. 40 ∷ lower w.0 ∷ l) t.spells ∙ sym (spelling_right (map lower first) (words_spelled t.others));
       },
-      ap (λ l. 40 ∷ l) (inner ∙ sym (regroup s.blanks first (words_written t.others) t.back rest))
+      ap (λ l. 40 ∷ l) (inner ∙ sym (regroup s.blanks first (words_written t.others) t.back rest)),
     )
 
 name_parts : (bytes name rest : List ℕ) → name_in bytes ≡ Some (name, rest) → Name bytes name rest
@@ -346,7 +345,7 @@ bracket_parts bytes dur rest h =
     let text = 91 ∷ (s.blanks ++ (n.text ++ (k.blanks ++ 93 ∷ []))) in
     let is : SpellsBracketed text a.0.0 = record { front = s.blanks; number = n.text; back = k.blanks; whole = sym (bracket_right s.blanks n.text k.blanks); front_blank = s.are_blank; is_number = n.is_number; back_blank = k.are_blank } in
     let inner : bytes ≡ s.blanks ++ (n.text ++ (k.blanks ++ 93 ∷ rest)) =
-        s.whole ∙ ap (λ l. s.blanks ++ l) (n.whole ∙ ap (λ l. n.text ++ l) (k.whole ∙ ap (λ l. k.blanks ++ 93 ∷ l) p.1)) in
+    s.whole ∙ ap (λ l. s.blanks ++ l) (n.whole ∙ ap (λ l. n.text ++ l) (k.whole ∙ ap (λ l. k.blanks ++ 93 ∷ l) p.1)) in
     (text, subst (SpellsDuration text) p.0 is, ap (λ l. 91 ∷ l) (inner ∙ sym (regroup_number s.blanks n.text k.blanks rest)))
 
 duration_by : (o : Option (List ℕ)) (bytes : List ℕ) (dur : Option ℕ) (rest : List ℕ) → after_byte 91 bytes ≡ o → bracket_by o bytes ≡ Some (dur, rest) → Duration bytes dur rest

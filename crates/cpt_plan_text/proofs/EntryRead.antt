@@ -1,4 +1,4 @@
-use Rattle.std.proofs.Common.{◌≡◌, ℕ, suc, ◌+◌, ◌<◌, min, Bool, true, false, eqb, All, List, [], ◌∷◌, ◌++◌, length, map, drop, Option, None, Some, refl, sym, subst, ap, ◌∙◌, arith, append_assoc}
+use Rattle.std.proofs.Common.{◌≡◌, ℕ, suc, ◌<◌, min, Bool, true, false, eqb, All, List, [], ◌∷◌, ◌++◌, length, map, Option, None, Some, refl, sym, subst, ap, ◌∙◌, arith, append_assoc}
 use Rattle.std.specs.Char.{is_ascii_digit, IsAsciiDigit}
 use Rattle.std.specs.Str.Parse.{digits_value}
 use Rattle.std.proofs.lemmas.Bool.Decides.{nat_tests}
@@ -7,7 +7,7 @@ use Rattle.std.proofs.Math.Seq.{drop-append_seam}
 use Rattle.cpt_line.specs.Digits.{digit_count}
 use Rattle.cpt_line.specs.Names.{word_byte}
 use Rattle.cpt_plan_text.specs.declared.line.Entry.{Entry}
-use Rattle.cpt_plan_text.specs.Entries.{AreBlanks, IsComment, IsFraction, SpellsNumber, IsWordByte, IsWord, NextWord, IsNextWord, words_written, words_spelled, SpellsName, SpellsBracketed, SpellsDuration, SpellsEntry, IsSilent}
+use Rattle.cpt_plan_text.specs.Entries.{AreBlanks, IsComment, IsFraction, SpellsNumber, IsWordByte, IsWord, NextWord, IsNextWord, words_written, words_spelled, SpellsName, SpellsDuration, SpellsEntry, IsSilent}
 use Rattle.cpt_plan_text.specs.Grammar.{◌>>=◌, is_blank, skip_blanks, is_end, after_first, after_byte, zero_count, after_zeros, after_fraction, number_in, lower, spaced, name_rest, words_in, name_in, bracketed, duration_in, entry_in, line_in}
 use Rattle.cpt_plan_text.proofs.EntryParts.{IsBlank, IsZero, line_has_parts, line_is_silent, name_right, spelling_right, bracket_right, line_right, regroup, regroup_number}
 use Rattle.cpt_plan_text.proofs.LineBack.{Digits, number_by, number_is, digit_count_front, not_zero, some_count, skip_digits, digits_go_on}
@@ -182,7 +182,7 @@ name_read blanks text name rest h n =
     let behind = words_written n.others ++ (n.back ++ 41 ∷ rest) in
     let inside = n.front ++ (n.first ++ behind) in
     let whole : text ++ rest ≡ 40 ∷ inside =
-        ap (λ l. l ++ rest) (n.whole ∙ name_right n.front n.first (words_written n.others) n.back) ∙ ap (λ l. 40 ∷ l) (regroup n.front n.first (words_written n.others) n.back rest) in
+    ap (λ l. l ++ rest) (n.whole ∙ name_right n.front n.first (words_written n.others) n.back) ∙ ap (λ l. 40 ∷ l) (regroup n.front n.first (words_written n.others) n.back rest) in
     let opened : after_byte 40 (blanks ++ (text ++ rest)) ≡ Some inside = ap (λ l. after_byte 40 (blanks ++ l)) whole ∙ byte_read 40 blanks inside refl h in
     let others = others_read n.others (n.back ++ 41 ∷ rest) (41 ∷ []) rest n.other_words (close_read false n.back rest n.back_blank) in
     let spelling : 40 ∷ (map lower n.first ++ (words_spelled n.others ++ 41 ∷ [])) ≡ name = sym (n.spells ∙ spelling_right (map lower n.first) (words_spelled n.others)) in
