@@ -1,3 +1,5 @@
+pub mod EntryParts
+pub mod EntryRead
 pub mod FaultOrder
 pub mod Finding
 pub mod LetterCase

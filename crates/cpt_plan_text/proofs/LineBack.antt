@@ -12,7 +12,7 @@ use Rattle.cpt_line.specs.Names.{word_byte, name_after, is_name}
 use Rattle.cpt_plan_text.specs.Grammar.{◌>>=◌, is_blank, skip_blanks, is_end, after_byte, after_fraction, number_in, lower, spaced, name_rest, words_in, name_in, bracketed, duration_in, entry_in, line_in}
 
 -- digits alone
-abbrev Digits : List ℕ → Type 0
+abbrev pub Digits : List ℕ → Type 0
 Digits [] = Unit {0}
 Digits (b ∷ bs) = (is_ascii_digit b ≡ true) × Digits bs
 
@@ -26,7 +26,7 @@ one_digit n h = grind (arith, nat_tests)
 decimal_digits : (n : ℕ) → n < 2 ^ 64 → Digits (decimal n)
 decimal_digits = decimal_by_steps (λ n ds. Digits ds) (λ n h. (one_digit n h, tt)) (λ n ds h p. Digits-append ds ((48 + n % 10) ∷ []) p (one_digit (n % 10) (omega arith), tt))
 
-digit_count_front : (ds rest : List ℕ) → Digits ds → digit_count rest ≡ 0 → digit_count (ds ++ rest) ≡ length ds
+pub digit_count_front : (ds rest : List ℕ) → Digits ds → digit_count rest ≡ 0 → digit_count (ds ++ rest) ≡ length ds
 digit_count_front [] rest p h = h
 digit_count_front (d ∷ ds) rest p h = let e = p.0 in rw e (omega (arith, digit_count_front ds rest p.1 h))
 
@@ -34,17 +34,17 @@ digit_count_front (d ∷ ds) rest p h = let e = p.0 in rw e (omega (arith, digit
 abbrev Stops : List ℕ → Type 0
 Stops rest = (digit_count rest ≡ 0) × (after_fraction rest ≡ Some rest)
 
-number_by : ℕ → List ℕ → Option (ℕ × List ℕ)
+pub number_by : ℕ → List ℕ → Option (ℕ × List ℕ)
 number_by count bytes = cond (eqb count 0) None (after_fraction (drop count bytes) >>= (λ rest. Some (min (digits_value 10 (take count bytes)) 4294967296, rest)))
 
-number_is : (bytes : List ℕ) → number_in bytes ≡ number_by (digit_count bytes) bytes
+pub number_is : (bytes : List ℕ) → number_in bytes ≡ number_by (digit_count bytes) bytes
 unfolding number_in number_by
 number_is bytes = refl
 
-not_zero : (n : ℕ) → 0 < n → eqb n 0 ≡ false
+pub not_zero : (n : ℕ) → 0 < n → eqb n 0 ≡ false
 not_zero n h = grind (arith, nat_tests)
 
-some_count : (ds rest : List ℕ) → 0 < length ds → number_by (length ds) (ds ++ rest) ≡ (after_fraction rest >>= (λ rest. Some (min (digits_value 10 ds) 4294967296, rest)))
+pub some_count : (ds rest : List ℕ) → 0 < length ds → number_by (length ds) (ds ++ rest) ≡ (after_fraction rest >>= (λ rest. Some (min (digits_value 10 ds) 4294967296, rest)))
 unfolding number_by
 some_count ds rest h = rw (not_zero (length ds) h, take-append_seam ds rest, drop-append_seam ds rest) refl
 
@@ -65,7 +65,7 @@ decimal_front n rest small stops =
 digit_is_no_blank : (b : ℕ) → is_ascii_digit b ≡ true → is_blank b ≡ false
 digit_is_no_blank b h = grind (arith, nat_tests)
 
-skip_digits : (ds rest : List ℕ) → Digits ds → 0 < length ds → skip_blanks (ds ++ rest) ≡ ds ++ rest
+pub skip_digits : (ds rest : List ℕ) → Digits ds → 0 < length ds → skip_blanks (ds ++ rest) ≡ ds ++ rest
 skip_digits [] rest p h = absurd (omega arith)
 skip_digits (d ∷ ds) rest p h = rw (digit_is_no_blank d p.0) refl
 
@@ -75,7 +75,7 @@ skip_decimal n rest small = let numeral = decimal_is_IsNumeral n (omega arith) i
 digit_is_no_mark : (b : ℕ) → is_ascii_digit b ≡ true → eqb b 59 ≡ false
 digit_is_no_mark b h = grind (arith, nat_tests)
 
-digits_go_on : (ds rest : List ℕ) → Digits ds → 0 < length ds → is_end (ds ++ rest) ≡ false
+pub digits_go_on : (ds rest : List ℕ) → Digits ds → 0 < length ds → is_end (ds ++ rest) ≡ false
 digits_go_on [] rest p h = absurd (omega arith)
 digits_go_on (d ∷ ds) rest p h = digit_is_no_mark d p.0
 
@@ -89,7 +89,7 @@ and_true true b h = (refl, h)
 and_true false b h = absurd (false≢true h)
 
 -- the way that a test went
-chosen : {A : Type 0} (b : Bool) (x y z : A) → cond b x y ≡ z → ((b ≡ true) × (x ≡ z)) ⊎ ((b ≡ false) × (y ≡ z))
+pub chosen : {A : Type 0} (b : Bool) (x y z : A) → cond b x y ≡ z → ((b ≡ true) × (x ≡ z)) ⊎ ((b ≡ false) × (y ≡ z))
 chosen true x y z h = inl (refl, h)
 chosen false x y z h = inr (refl, h)
 

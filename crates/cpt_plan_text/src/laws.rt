@@ -1,16 +1,18 @@
 //! Laws on what tasks know and on plan texts.
 
-ghost use Rattle.std.specs.Prelude.{◌≡◌, ◌↔◌, ◌≤◌, ℕ, All, List, length, map};
+ghost use Rattle.std.specs.Prelude.{◌≡◌, ◌↔◌, ◌≤◌, ℕ, All, List, None, Some, length, map};
 ghost use Rattle.std.specs.List.Sorted.{IsPermutation};
 ghost use Rattle.cpt_line.specs.Names.{AreNames};
 ghost use Rattle.cpt_task.specs.declared.plan.Occ.{Occ};
 ghost use Rattle.cpt_task.specs.Building.{IsFirst};
 ghost use Rattle.cpt_task.specs.Shape.{InBounds, TaskShape};
 ghost use Rattle.cpt_task.specs.Timeline.{IsPlan};
+ghost use Rattle.cpt_plan_text.specs.declared.line.Entry.{Entry};
 ghost use Rattle.cpt_plan_text.specs.declared.roster.Found.{Found};
 ghost use Rattle.cpt_plan_text.specs.declared.roster.Found.TheVariants.{Known, Unreachable, Unknown};
+ghost use Rattle.cpt_plan_text.specs.Entries.{IsSilent, SpellsEntry};
 ghost use Rattle.cpt_plan_text.specs.Faults.{FaultlessIsRead, FaultsComeFirst, LateFaultsComeNext};
-ghost use Rattle.cpt_plan_text.specs.Grammar.{lower};
+ghost use Rattle.cpt_plan_text.specs.Grammar.{line_in, lower};
 ghost use Rattle.cpt_plan_text.specs.Knowing.{HasName, KnowsActions, task_finds};
 ghost use Rattle.cpt_plan_text.specs.Meaning.{plan_of};
 ghost use Rattle.cpt_plan_text.specs.Spelling.{IsInPrintOrder, IsTextOf, in_lines, plan_spelling};
@@ -53,4 +55,12 @@ pub fn faults_come_in_order()
 /// Letter case is ignored: a text is read as the same text in lower case.
 pub fn letter_case_is_ignored()
     ensures { (finds : List ℕ → Found) (t : TaskShape) (text : List ℕ) → plan_of finds t (map lower text) ≡ plan_of finds t text }
+{}
+
+/// What a line says is told by its parts: an entry exactly where the line is its parts, one behind the other, and
+/// nothing exactly where it is blank or a comment. It is refused exactly where it is neither.
+pub fn lines_by_parts()
+    ensures entry { (line : List ℕ) (entry : Entry) → line_in line ≡ Some (Some entry) ↔ SpellsEntry line entry }
+    ensures silent { (line : List ℕ) → line_in line ≡ Some None ↔ IsSilent line }
+    ensures refused { (line : List ℕ) → line_in line ≡ None ↔ ((entry : Entry) → SpellsEntry line entry → ⊥) × (IsSilent line → ⊥) }
 {}

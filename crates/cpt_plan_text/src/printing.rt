@@ -1,6 +1,6 @@
 //! Plans, printed.
 
-ghost use Rattle.std.specs.Prelude.{◌≡◌, ◌-◌, ◌<◌, ◌^◌, ◌++◌, IfOk, OnOk};
+ghost use Rattle.std.specs.Prelude.{◌≡◌, ◌-◌, ◌<◌, ◌^◌, ◌++◌, IfOk, IsErrOf, OnOk};
 ghost use Rattle.std.specs.List.Sorted.{IsPermutation};
 ghost use Rattle.cpt_task.specs.Timeline.{IsOccurrence, IsPlan};
 ghost use Rattle.cpt_plan_text.specs.Spelling.{CountsFaults, IsInPrintOrder, IsTextOf, Prints, plan_spelling, spelled_line};
@@ -67,6 +67,8 @@ pub fn print_plan<K: Sink>(
     // What was written grew by this text, or by a front of it, or by nothing.
     ensures text { Prints task.now plan.now (K.written out.old) (K.written out.new) result }
     ensures cause { CountsFaults (K.faults out.old) (K.faults out.new) result }
+    // Where memory ran out, the output is as it was.
+    ensures memory { IsErrOf result PrintError.Memory → out.new ≡ out.old }
 {
     let text = text_of(alloc, task, plan)?;
     if text.is_empty() {
