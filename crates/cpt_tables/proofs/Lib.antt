@@ -1,3 +1,11 @@
+pub mod SetLemmas
 pub mod SpanLemmas
+pub mod TaskLemmas
+pub mod AtomScans
+pub mod LessenLemmas
+pub mod LimitLemmas
+pub mod ListLemmas
 pub mod MostLemmas
+pub mod PairScans
 pub mod PlaceLemmas
+pub mod ScanLemmas

@@ -1,5 +1,6 @@
 pub mod Admissible
 pub mod Bounds
 pub mod Greatest
+pub mod Scans
 pub mod Shapes
 pub mod Spans

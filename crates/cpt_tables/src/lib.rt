@@ -2,15 +2,22 @@
 #![tactic(auto)]
 
 mod dist_table;
+mod dists;
 mod faults;
+mod least;
+mod limits;
 mod pair_table;
+mod pairs;
+mod search;
 mod sets;
 mod spans;
 mod tables;
 
 pub use dist_table::DistTable;
+pub use dists::admissible_dists;
 pub use faults::{DistFault, PairFault};
 pub use pair_table::PairTable;
+pub use pairs::admissible_pairs;
 pub use sets::set_span;
 pub use spans::{add_spans, exceeds, greater_span, lesser_span};
 pub use tables::Tables;
