@@ -97,6 +97,9 @@ fine_more t h d n before here a p la lp v m = go (cases_lt a n)
         let e : a ≡ n = omega arith in
         subst (λ b. dist_at d b p ≤ˢ v) (sym e) (here p lp v (subst (λ b. IsDistLimit t h d b p v) e m))
 
+pub fine_all : (t : TaskShape) (h : PairShape) (d : DistShape) (n : ℕ) → length t.actions ≤ n → IsFineBefore t h d n → IsAdmissibleDists t h d
+fine_all t h d n le before a p la lp v m = before a p (omega arith) lp v m
+
 -- the atoms that a search found are atoms
 pub atom_below : (t : TaskShape) (h : PairShape) (d : DistShape) (a p : ℕ) → FitsPairs t h → FitsDists t d → ((c : ℕ) → c < length t.actions → (r : ℕ) → Contains (nth_action t c).add r → r < length t.atoms) → ScansAtoms d a (IsOfDist t h d a) None (Some p) → p < d.atoms
 atom_below t h d a p f g adds s = elim s.origin [ inl e ↦ absurd (let z : ⊥ = cc e in z) | inr hit ↦ below hit.0 hit.1 ]

@@ -1,10 +1,11 @@
 //! Whether a distance table is admissible.
 
-ghost use Rattle.std.specs.Prelude.{◌≡◌, ◌<◌, ℕ, length, All, MatchBool, MatchOption, None};
+ghost use Rattle.std.specs.Prelude.{◌≡◌, ◌<◌, ℕ, length, All, MatchBool, MatchOption, IfNone, None};
 ghost use Rattle.cpt_task.specs.Shape.{InBounds};
 ghost use Rattle.cpt_tables.specs.Spans.{◌≤ˢ◌, ◌+ˢ◌, IsFinite};
 ghost use Rattle.cpt_tables.specs.Shapes.{FitsPairs, FitsDists, IsSmallDists, most_dist, dist_at, pair_at};
-ghost use Rattle.cpt_tables.specs.Admissible.{nth_action, IsAtOnce, Stays, CanHoldWith, IsDistLimit, IsLimitAfter, IsLeast, IsAdmissibleDists, IsDistFault, limit_after};
+ghost use Rattle.cpt_tables.specs.Admissible.{nth_action, IsAtOnce, Stays, CanHoldWith, IsDistLimit, IsLimitAfter, IsLeast, IsAdmissiblePairs, IsAdmissibleDists, IsDistFault, limit_after};
+ghost use Rattle.cpt_tables.specs.Bounds.{BoundsDists};
 ghost use Rattle.cpt_tables.specs.Scans.{IsServed, IsReached, IsEarlierAtom, IsLate, IsFineBefore, ScansAtoms, IsZeroHere, IsAfterHere, IsOfDist, IsAtomOne, IsAtomAmong, Lessens};
 
 use crate::dist_table::DistTable;
@@ -193,9 +194,12 @@ fn least_distance(task: &Task, pairs: &PairTable, dists: &DistTable, act: u32, p
 pub fn admissible_dists(task: &Task, pairs: &PairTable, dists: &DistTable) -> Option<DistFault>
     requires pairs { FitsPairs task.now pairs.now }
     requires dists { FitsDists task.now dists.now }
-    ensures { MatchOption result (IsAdmissibleDists task.now pairs.now dists.now) (IsDistFault task.now pairs.now dists.now) }
+    ensures answer { MatchOption result (IsAdmissibleDists task.now pairs.now dists.now) (IsDistFault task.now pairs.now dists.now) }
+    // A table that is admissible over an admissible pair table bounds the moments of plans.
+    ensures bounds { IfNone result (IsAdmissiblePairs task.now pairs.now → BoundsDists task.now dists.now) }
 {
-    for act in 0..dists.actions() {
+    let count = task.actions().len() as u32;
+    for act in 0..count {
         if let Some(atom) = first_atom(task, pairs, dists, act) {
             return Some(DistFault {
                 act,

@@ -4,6 +4,7 @@
 mod dist_table;
 mod dists;
 mod faults;
+mod laws;
 mod least;
 mod limits;
 mod pair_table;
@@ -16,6 +17,7 @@ mod tables;
 pub use dist_table::DistTable;
 pub use dists::admissible_dists;
 pub use faults::{DistFault, PairFault};
+pub use laws::{dists_bound, pairs_bound};
 pub use pair_table::PairTable;
 pub use pairs::admissible_pairs;
 pub use sets::set_span;
