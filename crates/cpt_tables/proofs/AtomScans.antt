@@ -7,7 +7,7 @@ use Rattle.cpt_task.specs.declared.task.Action.{Action}
 use Rattle.cpt_task.specs.Shape.{TaskShape}
 use Rattle.cpt_tables.specs.Spans.{◌≤ˢ◌, ◌<ˢ◌}
 use Rattle.cpt_tables.specs.Shapes.{PairShape, DistShape, dist_at, FitsPairs, FitsDists}
-use Rattle.cpt_tables.specs.Admissible.{IsAtOnce, IsDistLimit, IsLimitAfter, IsLeast, IsDistFault, ComesBefore, nth_action}
+use Rattle.cpt_tables.specs.Admissible.{IsAtOnce, IsDistLimit, IsLimitAfter, IsLeast, IsAdmissibleDists, IsDistFault, ComesBefore, nth_action}
 use Rattle.cpt_tables.specs.Admissible.IsDistLimit.{at_once, later}
 use Rattle.cpt_tables.specs.Scans.{ReachesAtom, ScansAtoms, IsLate, IsZeroHere, IsAfterHere, IsOfDist, IsFineBefore, Lessens}
 use Rattle.cpt_tables.proofs.SpanLemmas.{le_cases, le_lt, zero_le}

@@ -1,5 +1,5 @@
 -- admissible distance tables bound the moments of valid plans after an end
-use Rattle.std.proofs.Common.{◌≡◌, ◌≢◌, ℕ, zero, suc, ◌+◌, ◌-◌, ◌<◌, ◌≤◌, ◌⊎◌, inl, inr, Bool, true, false, List, length, get_or, All, Contains, refl, sym, ap, subst, ◌∙◌, arith}
+use Rattle.std.proofs.Common.{◌≡◌, ◌≢◌, ℕ, zero, suc, ◌-◌, ◌<◌, ◌≤◌, ◌⊎◌, inl, inr, true, List, length, get_or, Contains, refl, sym, ap, subst, ◌∙◌, arith}
 use Rattle.std.proofs.lemmas.Bool.{cases_eq, cases_lt, both_ways}
 use Rattle.std.proofs.lemmas.List.{get_or_default}
 use Rattle.cpt_task.specs.declared.span.Span.{Span}
@@ -7,7 +7,7 @@ use Rattle.cpt_task.specs.declared.span.Span.TheVariants.{At, Never}
 use Rattle.cpt_task.specs.declared.task.Action.{Action}
 use Rattle.cpt_task.specs.declared.plan.Occ.{Occ}
 use Rattle.cpt_task.specs.Shape.{TaskShape, InBounds}
-use Rattle.cpt_task.specs.Timeline.{action_of, end_of, adds_at, deletes_at, holds_at, IsValid, occurrence_at}
+use Rattle.cpt_task.specs.Timeline.{action_of, end_of, deletes_at, holds_at, IsValid, occurrence_at}
 use Rattle.cpt_tables.specs.Spans.{◌≤ˢ◌, ◌+ˢ◌, IsFinite}
 use Rattle.cpt_tables.specs.Shapes.{PairShape, DistShape, pair_at, dist_at, most_dist}
 use Rattle.cpt_tables.specs.Admissible.{IsAdmissiblePairs, IsAdmissibleDists, CanHoldWith, Stays, IsAtOnce, limit_after}
@@ -18,7 +18,7 @@ use Rattle.cpt_tables.proofs.MostLemmas.{over_le}
 use Rattle.cpt_tables.proofs.SetLemmas.{all_from}
 use Rattle.cpt_tables.proofs.ListLemmas.{place_in, contains_at}
 use Rattle.cpt_tables.proofs.PlanFacts.{contains_cases, AddsAt, added_by, adds_from, deletes_from, holds_from_add, hold_cases, since, of_plan, lasts, needs_hold, no_clash, holds_in_range}
-use Rattle.cpt_tables.proofs.PairBounds.{IsBoundAt, two_added, pairs_bound}
+use Rattle.cpt_tables.proofs.PairBounds.{two_added, pairs_bound}
 
 finite_cases : (a : Span) → IsFinite a ⊎ (IsFinite a → ⊥)
 finite_cases (At a) = inl tt

@@ -1,15 +1,13 @@
 -- facts of valid plans
-use Rattle.std.proofs.Common.{◌≡◌, ◌≢◌, ℕ, zero, suc, ◌+◌, ◌<◌, ◌≤◌, ◌⊎◌, inl, inr, Bool, true, false, not, ◌&&◌, ◌||◌, nat_eq, List, length, get_or, All, Contains, refl, sym, ap, subst, ◌∙◌, arith}
-use Rattle.std.specs.List.{list_any}
-use Rattle.std.proofs.lemmas.Bool.{cases_Bool, cases_eq, cases_lt, or_cases, or_right, and_parts, and_from, not-true, both_ways, eqb-true, eq-eqb}
+use Rattle.std.proofs.Common.{◌≡◌, ◌≢◌, ℕ, zero, suc, ◌<◌, ◌≤◌, ◌⊎◌, inl, inr, true, false, not, ◌&&◌, nat_eq, List, length, get_or, Contains, refl, sym, ap, subst, ◌∙◌, arith}
+use Rattle.std.proofs.lemmas.Bool.{cases_Bool, cases_lt, or_cases, or_right, and_parts, and_from, not-true, both_ways, eqb-true, eq-eqb}
 use Rattle.std.proofs.lemmas.List.{get_or_default}
 use Rattle.std.proofs.lemmas.List.Folds.{Any-from_list_any, list_any_at}
-use Rattle.std.proofs.lemmas.List.Elements.{All-contains, Contains-get_or}
-use Rattle.cpt_task.specs.declared.task.Action.{Action}
+use Rattle.std.proofs.lemmas.List.Elements.{All-contains}
 use Rattle.cpt_task.specs.declared.plan.Occ.{Occ}
-use Rattle.cpt_task.specs.Shape.{TaskShape, InBounds, IsDuration, HasAtomsBelow}
+use Rattle.cpt_task.specs.Shape.{TaskShape, InBounds, IsDuration}
 use Rattle.cpt_task.specs.Interference.{Interferes}
-use Rattle.cpt_task.specs.Timeline.{idle, action_of, end_of, is_in, adds_at, deletes_at, holds_at, HoldsThen, HoldsFrom, IsValid, occurrence_at, Clashes}
+use Rattle.cpt_task.specs.Timeline.{idle, action_of, end_of, is_in, adds_at, deletes_at, holds_at, HoldsFrom, IsValid, occurrence_at}
 use Rattle.cpt_tables.proofs.TaskLemmas.{nth_contained}
 
 pub contains_from_in : (xs : List ℕ) (p : ℕ) → is_in p xs ≡ true → Contains xs p

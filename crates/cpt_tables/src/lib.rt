@@ -13,6 +13,8 @@ mod search;
 mod sets;
 mod spans;
 mod tables;
+#[cfg(test)]
+mod tests;
 
 pub use dist_table::DistTable;
 pub use dists::admissible_dists;

@@ -1,4 +1,5 @@
-use Rattle.std.proofs.Common.{◌≡◌, ◌<◌, length, arith}
+use Rattle.std.proofs.Common.{◌≡◌, ◌<◌, List, length, ap, arith}
+use Rattle.cpt_task.specs.declared.task.Action.{Action}
 use Rattle.cpt_tables.proofs.LimitLemmas.{adds_below}
 use Rattle.cpt_tables.proofs.AtomScans.{atom_below, fault_from_some, fine_from_none, fine_more, fine_all}
 use Rattle.cpt_tables.proofs.DistBounds.{dists_bound}
