@@ -70,39 +70,28 @@ fn put_dist(task: &Task, dists: &mut DistTable, act: u32, atom: u32, value: Span
 }
 
 // Three atoms and these actions.
-fn of_three(
-    alloc: Global,
-    first: Action,
-    second: Action,
-    third: Action,
-    init: &[u32],
-) -> Option<Task> {
-    let names = || List::from_vec(Vec::new(alloc));
-    let atoms = vec![in alloc; names(), names(), names()].ok()?;
-    let actions = vec![in alloc; first, second, third].ok()?;
+fn of_three(alloc: Global, actions: Vec<Action>, init: &[u32]) -> Option<Task> {
+    if actions.len() > 3 {
+        return None;
+    }
+    let name = || List::from_vec(Vec::new(alloc));
+    let atoms = vec![in alloc; name(), name(), name()].ok()?;
     Task::build(atoms, actions, ids(alloc, init)?, ids(alloc, &[2])?).ok()
 }
 
 // The second action needs and deletes what the first needs.
 fn in_turn(alloc: Global) -> Option<Task> {
-    of_three(
-        alloc,
-        action(alloc, 5, &[0], &[1], &[])?,
-        action(alloc, 3, &[0], &[2], &[0])?,
-        action(alloc, 1, &[1], &[1], &[])?,
-        &[0],
-    )
+    let first = action(alloc, 5, &[0], &[1], &[])?;
+    let second = action(alloc, 3, &[0], &[2], &[0])?;
+    of_three(alloc, vec![in alloc; first, second].ok()?, &[0])
 }
 
 // Two actions that may run side by side, and one that needs what they add.
 fn side_by_side(alloc: Global) -> Option<Task> {
-    of_three(
-        alloc,
-        action(alloc, 10, &[], &[0], &[])?,
-        action(alloc, 4, &[], &[1], &[])?,
-        action(alloc, 1, &[0, 1], &[2], &[])?,
-        &[],
-    )
+    let first = action(alloc, 10, &[], &[0], &[])?;
+    let second = action(alloc, 4, &[], &[1], &[])?;
+    let third = action(alloc, 1, &[0, 1], &[2], &[])?;
+    of_three(alloc, vec![in alloc; first, second, third].ok()?, &[])
 }
 
 // The faults of its greatest table, and of that table with a greater value of the last two atoms.
