@@ -3,6 +3,7 @@ pub mod SpanLemmas
 pub mod TaskLemmas
 pub mod AtomScans
 pub mod DistBounds
+pub mod GrowLemmas
 pub mod LessenLemmas
 pub mod LimitLemmas
 pub mod ListLemmas

@@ -5,7 +5,8 @@ ghost use Rattle.cpt_task.specs.Shape.{InBounds};
 ghost use Rattle.cpt_tables.specs.Shapes.{FitsPairs, IsSmallPairs, set_span_of};
 ghost use Rattle.cpt_tables.specs.Admissible.{IsAdmissiblePairs, IsPairFault};
 ghost use Rattle.cpt_tables.specs.Bounds.{BoundsPairs};
-ghost use Rattle.cpt_tables.specs.Scans.{ScansPairs, IsServed, IsAmongBoth, IsBesideOne, IsBesideAny, IsOfTwo, IsOfPartner, IsOfAction, IsOfTask};
+ghost use Rattle.cpt_tables.specs.Scans.{ScansPairs, IsAmongBoth, IsBesideOne, IsBesideAny, IsOfTwo, IsOfPartner, IsOfAction, IsOfTask};
+ghost use Rattle.cpt_tables.specs.Serving.{IsServed};
 
 use crate::faults::PairFault;
 use crate::least::least_limit;
