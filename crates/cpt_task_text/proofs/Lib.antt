@@ -1,6 +1,9 @@
 pub mod Acting
 pub mod Binding
+pub mod Completing
+pub mod Faulting
 pub mod Feeding
+pub mod FirstFault
 pub mod Heading
 pub mod Listing
 pub mod Naming
@@ -8,4 +11,5 @@ pub mod Numerals
 pub mod Parts
 pub mod Sets
 pub mod Steps
+pub mod Stopping
 pub mod Whole

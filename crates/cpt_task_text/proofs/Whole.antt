@@ -172,7 +172,7 @@ feedless_actions count seen (a ∷ actions) few h =
       ),
     )
 
-feedless : (t : TaskShape) → IsPlain t → Feedless (lines_of t)
+pub feedless : (t : TaskShape) → IsPlain t → Feedless (lines_of t)
 feedless t h =
     let atoms : length t.atoms ≤ 2048 = h.few_atoms in
     let actions : length t.actions ≤ 4096 = h.few_actions in
