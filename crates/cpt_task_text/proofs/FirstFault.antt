@@ -105,7 +105,7 @@ at_goal counts atoms actions init z = ids_at (init_line counts + 1) (codes "goal
 abbrev at_init : ℕ × ℕ → List (List ℕ) → List Action → Rest → Result TaskShape TaskTextError
 at_init counts atoms actions z = ids_at (init_line counts) (codes "init") counts.0 z >>= λ init. at_goal counts atoms actions init.0 init.1
 
-abbrev at_actions : ℕ × ℕ → List (List ℕ) → Rest → Result TaskShape TaskTextError
+abbrev pub at_actions : ℕ × ℕ → List (List ℕ) → Rest → Result TaskShape TaskTextError
 at_actions counts atoms z = actions_at counts.1 (counts.0 + 2) counts.0 [] z >>= λ actions. at_init counts atoms actions.0 actions.1
 
 abbrev at_atoms : ℕ × ℕ → Rest → Result TaskShape TaskTextError

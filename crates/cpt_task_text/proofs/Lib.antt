@@ -5,6 +5,7 @@ pub mod Faulting
 pub mod Feeding
 pub mod FirstFault
 pub mod Heading
+pub mod Limiting
 pub mod Listing
 pub mod Naming
 pub mod Numerals

@@ -127,3 +127,14 @@ numeral_takes bytes n rest e =
       capped = value;
       spelled = sym (take-append-drop count bytes) ∙ ap (λ (x : List ℕ). digits ++ x) after;
     }
+
+no_leading_zero : (ds rest : List ℕ) (value : ℕ) (one : Bool) → IsNumeral ds value → eqb (length ds) 1 ≡ one → (not one && bytes_eq (take 1 (ds ++ rest)) (48 ∷ [])) ≡ false
+no_leading_zero ds rest value true h e = refl
+no_leading_zero ds rest value false h e = not_zero_first ds rest h.some (λ z. eqb-false (length ds) 1 e (h.short_zero z))
+
+-- digits without a leading zero are read, up to the cap
+pub numeral_again : (ds rest : List ℕ) (value : ℕ) → IsNumeral ds value → digit_count rest ≡ 0 → number_in (ds ++ rest) ≡ Some (min value 1000000001, rest)
+unfolding number_in
+numeral_again ds rest value h none =
+    let some : eqb (length ds) 0 ≡ false = ne_eqb _ _ (λ e. omega (arith, e, h.some)) in
+    rw (count_of ds rest h.decimal none, some, no_leading_zero ds rest value (eqb (length ds) 1) h refl, take_at ds rest (length ds) refl, drop_at ds rest (length ds) refl, h.worth) refl

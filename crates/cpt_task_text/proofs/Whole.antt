@@ -59,7 +59,7 @@ plain_from_known count more t h =
       };
     }
 
-fits_plain : (t : TaskShape) → IsPlain t → AllFit (length t.atoms) [] t.actions
+pub fits_plain : (t : TaskShape) → IsPlain t → AllFit (length t.atoms) [] t.actions
 fits_plain t h = fit_from_plain (length t.atoms) [] t.actions (record { new = new_from_names [] (names_of t.actions) h.actions; lists = h.lists; below = h.bounds.actions; lasting = h.bounds.durations })
 
 -- a task is what its text says

@@ -11,5 +11,6 @@ ghost use Rattle.cpt_task_text.specs.Reading.{task_of};
 pub fn first_faulty_line()
     ensures line { (text : List ℕ) (n : ℕ) → task_of text ≡ Err (errors.Line n) → IsFirstFaulty text n }
     ensures limit { (text : List ℕ) (which : Limit) → task_of text ≡ Err (errors.Limit which) → (n : ℕ) × IsAtLimit text which n }
+    ensures limits { (text : List ℕ) (which : Limit) (n : ℕ) → IsAtLimit text which n → task_of text ≡ Err (errors.Limit which) }
     ensures memory { (text : List ℕ) → task_of text ≡ Err errors.Memory → ⊥ }
 {}
