@@ -14,7 +14,7 @@ use Rattle.cpt_line.specs.Digits.{number_in}
 use Rattle.cpt_line.specs.Lines.{split}
 use Rattle.cpt_task_text.specs.declared.error.TaskTextError.{TaskTextError}
 use Rattle.cpt_task_text.specs.declared.error.TaskTextError.TheVariants as errors
-use Rattle.cpt_task_text.specs.Faults.{BeginsAs, IsFirstFaulty, IsCountLine, IsAtLimit, Passes}
+use Rattle.cpt_task_text.specs.Faults.{BeginsAs, Begins, IsCountLine, IsAtLimit, Passes}
 use Rattle.cpt_task_text.specs.Plain.{IsPlain}
 use Rattle.cpt_task_text.specs.Reading.{◌>>=◌, Rest, line_at, ends_at, past, checked, number_at, within, counts_in, atoms_at, actions_at, ids_at, init_line, task_of}
 use Rattle.cpt_task_text.specs.Spelling.{count_line, atom_line, list_line, action_lines, lines_of}
@@ -385,7 +385,13 @@ at_counts text which begun = record {
   passed = pass_first begun.line which begun.pass;
 }
 
-pub line_law : (text : List ℕ) (n : ℕ) → task_of text ≡ Err (errors.Line n) → IsFirstFaulty text n
+-- with line n the text is no longer a beginning
+pub record IsNoBeginning (text : List ℕ) (n : ℕ) : Type 0 where
+  pub counted : 1 ≤ n
+  pub before : Begins text (n - 1)
+  pub here : Begins text n → ⊥
+
+pub line_law : (text : List ℕ) (n : ℕ) → task_of text ≡ Err (errors.Line n) → IsNoBeginning text n
 line_law text n q =
     elim (outcome text (errors.Line n) q) [
       | inl stop ↦

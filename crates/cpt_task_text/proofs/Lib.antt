@@ -9,6 +9,7 @@ pub mod Limiting
 pub mod Listing
 pub mod Naming
 pub mod Numerals
+pub mod OneFault
 pub mod Parts
 pub mod Sets
 pub mod Steps

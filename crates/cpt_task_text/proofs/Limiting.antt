@@ -1,22 +1,19 @@
 -- A well-formed line that passes a limit is answered by that limit.
-use Rattle.std.proofs.Common.{◌≡◌, ℕ, zero, suc, ◌+◌, ◌-◌, ◌^◌, ◌<◌, ◌≤◌, Bool, true, false, not, ◌&&◌, eqb, ltb, min, ◌⊎◌, inl, inr, List, [], ◌∷◌, ◌++◌, length, get_or, map, take, drop, All, Option, None, Some, slice_get, Result, Ok, Err, refl, sym, ap, subst, ◌∙◌, append_assoc, append-nil, arith}
+use Rattle.std.proofs.Common.{◌≡◌, ℕ, zero, suc, ◌+◌, ◌-◌, ◌<◌, ◌≤◌, min, inl, inr, List, [], ◌∷◌, ◌++◌, length, get_or, map, take, drop, All, Some, slice_get, Result, Ok, Err, refl, sym, ap, subst, ◌∙◌, append-nil, arith}
 use Rattle.std.specs.Prelude.{codes}
 use Rattle.std.specs.List.{flat_map}
 use Rattle.std.specs.List.Sorted.{IsStrictlyIncreasing}
-use Rattle.std.specs.Str.{bytes_eq}
-use Rattle.std.specs.Str.Parse.{digits_value}
-use Rattle.std.proofs.lemmas.Bool.{lt-ltb, le-ltb, eqb-true, ne_eqb}
-use Rattle.std.proofs.lemmas.List.{take_at, drop_at}
+use Rattle.std.proofs.lemmas.Bool.{lt-ltb, le-ltb}
 use Rattle.std.proofs.lemmas.List.{map_push}
 use Rattle.cpt_task.specs.declared.memory.Limit.{Limit}
 use Rattle.cpt_task.specs.declared.memory.Limit.TheVariants.{File, Certificate, Nesting, Objects, Parameters, LongList, Instances, Atoms, Actions, Start}
 use Rattle.cpt_task.specs.declared.task.Action.{Action}
 use Rattle.cpt_task.specs.Shape.{TaskShape}
-use Rattle.cpt_line.specs.Digits.{digit_count, number_in}
+use Rattle.cpt_line.specs.Digits.{number_in}
 use Rattle.cpt_line.specs.Lines.{split}
 use Rattle.cpt_task_text.specs.declared.error.TaskTextError.{TaskTextError}
 use Rattle.cpt_task_text.specs.declared.error.TaskTextError.TheVariants as errors
-use Rattle.cpt_task_text.specs.Faults.{BeginsAs, IsNumeral, IsCountLine, HasMost, IsLongerList, Passes, IsAtLimit}
+use Rattle.cpt_task_text.specs.Faults.{BeginsAs, IsCountLine, HasMost, IsLongerList, Passes, IsAtLimit}
 use Rattle.cpt_task_text.specs.Plain.{names_of, IsPlain}
 use Rattle.cpt_task_text.specs.Reading.{◌>>=◌, Rest, within, counts_in, atoms_at, actions_at, short_ids_at, action_at, task_of}
 use Rattle.cpt_task_text.specs.Spelling.{count_line, atom_line, head_line, list_line, action_lines, last_lines, lines_of}

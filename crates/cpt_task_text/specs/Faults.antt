@@ -8,7 +8,7 @@ use Rattle.cpt_task.specs.declared.memory.Limit.TheVariants.{File, Certificate, 
 use Rattle.cpt_task.specs.Shape.{TaskShape}
 use Rattle.cpt_line.specs.Lines.{split}
 use Rattle.cpt_task_text.specs.Plain.{IsPlain}
-use Rattle.cpt_task_text.specs.Spelling.{list_line, lines_of}
+use Rattle.cpt_task_text.specs.Spelling.{list_line, lines_of, spelling}
 
 -- the first k lines of the text are the first k lines of the spelling of this plain task
 pub record BeginsAs (text : List ℕ) (k : ℕ) (t : TaskShape) : Type 0 where
@@ -19,12 +19,6 @@ pub record BeginsAs (text : List ℕ) (k : ℕ) (t : TaskShape) : Type 0 where
 -- the first k lines of the text are those of some plain task
 abbrev pub Begins : List ℕ → ℕ → Type 0
 Begins text k = (t : TaskShape) × BeginsAs text k t
-
--- line n is the first with which the text is not the beginning of a plain task's spelling
-pub record IsFirstFaulty (text : List ℕ) (n : ℕ) : Type 0 where
-  pub counted : 1 ≤ n
-  pub before : Begins text (n - 1)
-  pub here : Begins text n → ⊥
 
 -- digits without a leading zero, as many as there are, and their value
 pub record IsNumeral (digits : List ℕ) (value : ℕ) : Type 0 where
@@ -78,3 +72,11 @@ pub record IsAtLimit (text : List ℕ) (which : Limit) (n : ℕ) : Type 0 where
   pub line : List ℕ
   pub there : slice_get (split text).0 (n - 1) ≡ Some line
   pub passed : Passes which n task line
+
+-- line n is the first with which the text is not the beginning of a plain task's spelling; it passes no limit, and the text is no such spelling
+pub record IsFirstFaulty (text : List ℕ) (n : ℕ) : Type 0 where
+  pub counted : 1 ≤ n
+  pub before : Begins text (n - 1)
+  pub here : Begins text n → ⊥
+  pub within : (which : Limit) → IsAtLimit text which n → ⊥
+  pub no_task : (t : TaskShape) → IsPlain t → text ≡ spelling t → ⊥
