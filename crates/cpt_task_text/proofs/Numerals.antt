@@ -9,6 +9,7 @@ use Rattle.std.proofs.lemmas.Fmt.{decimal-digits_value, digits_decimal, digits_v
 use Rattle.std.proofs.lemmas.List.{take_at, drop_at, take-append-drop, length-take-le}
 use Rattle.std.proofs.lemmas.Str.Parse.{IsNumeralModel, numerals_by_value, tells_all_ascii_digits}
 use Rattle.cpt_line.specs.Digits.{digit_count, number_in}
+use Rattle.cpt_task_text.specs.Faults.{IsNumeral}
 
 own : IsNumeralModel (λ ds. all_ascii_digits ds ≡ true) (digits_value 10)
 own = numerals_by_value (λ ds. all_ascii_digits ds ≡ true) tells_all_ascii_digits
@@ -97,3 +98,43 @@ number_again n rest low none =
     let value : digits_value 10 (decimal n) ≡ n = digits_value-decimal own n lt in
     let small : min n 1000000001 ≡ n = omega (arith, low) in
     rw (count, some, plain_decimal n rest lt, take_at (decimal n) rest (length (decimal n)) refl, drop_at (decimal n) rest (length (decimal n)) refl, value, small) refl
+
+-- a number that is read, of any length
+pub record TakesNumeral (bytes : List ℕ) (n : ℕ) (rest : List ℕ) : Type 0 where
+  pub digits : List ℕ
+  pub value : ℕ
+  pub numeral : IsNumeral digits value
+  pub capped : min value 1000000001 ≡ n
+  pub spelled : bytes ≡ digits ++ rest
+
+pub numeral_takes : (bytes : List ℕ) (n : ℕ) (rest : List ℕ) → number_in bytes ≡ Some (n, rest) → TakesNumeral bytes n rest
+unfolding number_in
+numeral_takes bytes n rest e =
+    let count = digit_count bytes in
+    let digits = take count bytes in
+    let p = some_or _ (min (digits_value 10 digits) 1000000001, drop count bytes) (n, rest) e in
+    let test = or_parts (eqb count 0) (not (eqb count 1) && bytes_eq (take 1 bytes) (48 ∷ [])) p.0 in
+    let value : min (digits_value 10 digits) 1000000001 ≡ n = ap (λ (x : ℕ × List ℕ). x.0) p.1 in
+    let after : drop count bytes ≡ rest = ap (λ (x : ℕ × List ℕ). x.1) p.1 in
+    let within : count ≤ length bytes = digit_count-le bytes in
+    let len : length digits ≡ count = length-take-le count bytes within in
+    let full : count ≡ 0 → ⊥ = eqb-false count 0 test.0 in
+    let some : 0 < count = omega (arith, full) in
+    record {
+      digits = digits;
+      value = digits_value 10 digits;
+      numeral = record { decimal = digits_front bytes; some = omega (arith, some, len); short_zero = λ z. len ∙ zeros_alone bytes count some test.1 z; worth = refl };
+      capped = value;
+      spelled = sym (take-append-drop count bytes) ∙ ap (λ (x : List ℕ). digits ++ x) after;
+    }
+
+no_leading_zero : (ds rest : List ℕ) (value : ℕ) (one : Bool) → IsNumeral ds value → eqb (length ds) 1 ≡ one → (not one && bytes_eq (take 1 (ds ++ rest)) (48 ∷ [])) ≡ false
+no_leading_zero ds rest value true h e = refl
+no_leading_zero ds rest value false h e = not_zero_first ds rest h.some (λ z. eqb-false (length ds) 1 e (h.short_zero z))
+
+-- digits without a leading zero are read, up to the cap
+pub numeral_again : (ds rest : List ℕ) (value : ℕ) → IsNumeral ds value → digit_count rest ≡ 0 → number_in (ds ++ rest) ≡ Some (min value 1000000001, rest)
+unfolding number_in
+numeral_again ds rest value h none =
+    let some : eqb (length ds) 0 ≡ false = ne_eqb _ _ (λ e. omega (arith, e, h.some)) in
+    rw (count_of ds rest h.decimal none, some, no_leading_zero ds rest value (eqb (length ds) 1) h refl, take_at ds rest (length ds) refl, drop_at ds rest (length ds) refl, h.worth) refl

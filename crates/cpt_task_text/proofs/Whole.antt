@@ -59,7 +59,7 @@ plain_from_known count more t h =
       };
     }
 
-fits_plain : (t : TaskShape) → IsPlain t → AllFit (length t.atoms) [] t.actions
+pub fits_plain : (t : TaskShape) → IsPlain t → AllFit (length t.atoms) [] t.actions
 fits_plain t h = fit_from_plain (length t.atoms) [] t.actions (record { new = new_from_names [] (names_of t.actions) h.actions; lists = h.lists; below = h.bounds.actions; lasting = h.bounds.durations })
 
 -- a task is what its text says
@@ -172,7 +172,7 @@ feedless_actions count seen (a ∷ actions) few h =
       ),
     )
 
-feedless : (t : TaskShape) → IsPlain t → Feedless (lines_of t)
+pub feedless : (t : TaskShape) → IsPlain t → Feedless (lines_of t)
 feedless t h =
     let atoms : length t.atoms ≤ 2048 = h.few_atoms in
     let actions : length t.actions ≤ 4096 = h.few_actions in
