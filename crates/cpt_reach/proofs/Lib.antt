@@ -1,5 +1,9 @@
 pub mod KeptPlans
+pub mod ListLemmas
+pub mod MarkLemmas
 pub mod Numbering
 pub mod Reaching
 pub mod Renaming
+pub mod TaskLemmas
 pub mod Timelines
+pub mod UserLemmas

@@ -1,4 +1,3 @@
-use native.Mathlib.Numerals.{unary_clauses}
 use Rattle.std.proofs.Common.{◌≡◌, ◌≢◌, ℕ, zero, suc, ◌+◌, ◌-◌, ◌<◌, ◌≤◌, ◌⊎◌, inl, inr, Bool, true, false, ◌||◌, nat_eq, nat_lt, cond, Option, None, Some, List, [], ◌∷◌, length, get_or, All, Contains, refl, sym, ap, ◌∙◌, subst, arith}
 use Rattle.std.specs.List.{list_any, cons_option, position, position_or_len}
 use Rattle.std.specs.List.Sorted.{IsStrictlyIncreasing}
@@ -149,12 +148,20 @@ head_below x xs inc k d lt =
     omega (arith, below, get_or_default_zero xs k d lt)
 
 pub tail_increasing : (x : ℕ) (xs : List ℕ) → IsStrictlyIncreasing (x ∷ xs) → IsStrictlyIncreasing xs
-tail_increasing x xs inc k lt = simp unary_clauses at (inc (suc k) (omega arith))
+tail_increasing x xs inc k lt =
+    let e : suc k + 1 ≡ suc (k + 1) = omega arith in
+    let up : get_or (x ∷ xs) (suc k) 0 < get_or (x ∷ xs) (suc k + 1) 0 = inc (suc k) (omega arith) in
+    let same : get_or (x ∷ xs) (suc k + 1) 0 ≡ get_or xs (k + 1) 0 = ap (λ n. get_or (x ∷ xs) n 0) e in
+    omega (arith, up, same)
 
 -- a list is increasing where its head is below all else and its tail is increasing
 pub increasing-cons : (x : ℕ) (xs : List ℕ) → All (λ y. x < y) xs → IsStrictlyIncreasing xs → IsStrictlyIncreasing (x ∷ xs)
 increasing-cons x xs low inc zero lt = low 0 0 (omega arith)
-increasing-cons x xs low inc (suc k) lt = simp unary_clauses (inc k (omega arith))
+increasing-cons x xs low inc (suc k) lt =
+    let e : suc k + 1 ≡ suc (k + 1) = omega arith in
+    let up : get_or xs k 0 < get_or xs (k + 1) 0 = inc k (omega arith) in
+    let same : get_or (x ∷ xs) (suc k + 1) 0 ≡ get_or xs (k + 1) 0 = ap (λ n. get_or (x ∷ xs) n 0) e in
+    omega (arith, up, same)
 
 cons_increasing : (o : Option ℕ) (rest : List ℕ) → ((j : ℕ) → o ≡ Some j → All (λ i. j < i) rest) → IsStrictlyIncreasing rest → IsStrictlyIncreasing (cons_option o rest)
 cons_increasing None rest low inc = inc

@@ -11,6 +11,10 @@ is_marked marks p = slice_index_or marks p false
 abbrev pub AreMarked : List Bool → List ℕ → Type 0
 AreMarked marks xs = All (λ p. is_marked marks p ≡ true) xs
 
+-- some number of the list is not marked
+abbrev pub HasUnmarked : List Bool → List ℕ → Type 0
+HasUnmarked marks xs = (p : ℕ) × Contains xs p × (is_marked marks p ≡ false)
+
 -- how many numbers are not marked
 abbrev pub unmarked : List Bool → ℕ
 unmarked [] = 0

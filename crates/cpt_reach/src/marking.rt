@@ -3,7 +3,7 @@
 ghost use Rattle.std.specs.Prelude.{◌≡◌, ◌<◌, ◌^◌, ℕ, [], ◌∷◌, OnOk, IfOk, MatchBool, length, All, Contains};
 ghost use Rattle.cpt_task.specs.Shape.{InBounds};
 ghost use Rattle.cpt_reach.specs.Reached.{action_at};
-ghost use Rattle.cpt_reach.specs.Marking.{is_marked, AreMarked, AllBelow, MarksAll, Settles, IsSettled, IsSound, IsUsers, Spreads, MarksReached};
+ghost use Rattle.cpt_reach.specs.Marking.{is_marked, AreMarked, HasUnmarked, AllBelow, MarksAll, Settles, IsSettled, IsSound, IsUsers, Spreads, MarksReached};
 
 use crate::users::users_of;
 use cpt_task::{Action, List, Memory, Task};
@@ -12,7 +12,7 @@ use std::alloc::Global;
 /// Whether each number is marked.
 pub fn are_marked(marks: &[bool], xs: &[u32]) -> bool
     requires { AllBelow (length marks.now) xs.now }
-    ensures { MatchBool result (AreMarked marks.now xs.now) (AreMarked marks.now xs.now → ⊥) }
+    ensures { MatchBool result (AreMarked marks.now xs.now) (HasUnmarked marks.now xs.now) }
 {
     for x in xs {
         if !marks[*x as usize] {

@@ -29,7 +29,7 @@ fn empty_rows(alloc: Global, count: usize) -> Result<Vec<List<u32>>, Memory>
     ensures { IfOk result (λ rows. IsNoUsers count rows.items) }
 {
     let mut rows = Vec::new(alloc);
-    for _ in 0..count {
+    for _row in 0..count {
         rows.push(List::from_vec(Vec::new(alloc)))?;
     }
     Ok(rows)
