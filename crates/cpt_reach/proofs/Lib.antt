@@ -2,6 +2,7 @@ pub mod KeptPlans
 pub mod ListLemmas
 pub mod MarkLemmas
 pub mod Numbering
+pub mod OneAnswer
 pub mod Reaching
 pub mod Renaming
 pub mod TaskLemmas

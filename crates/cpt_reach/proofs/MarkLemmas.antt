@@ -1,8 +1,8 @@
 use Rattle.std.proofs.Common.{◌≡◌, ◌≢◌, ℕ, zero, suc, ◌+◌, ◌*◌, ◌<◌, ◌≤◌, ◌⊎◌, inl, inr, Bool, true, false, List, [], ◌∷◌, ◌++◌, length, get_or, take, set, take_all, All, Contains, refl, sym, ap, ◌∙◌, subst, arith, length-append}
-use Rattle.std.proofs.Math.ListN.{length-set}
+use Rattle.std.proofs.Math.ListN.{length-set, get_or-eq_default}
 use Rattle.std.proofs.lemmas.Bool.Decides.{nat_tests}
 use Rattle.std.proofs.lemmas.List.{get_or-set_same, get_or-set_other, get_or_default, take_more}
-use Rattle.std.proofs.lemmas.List.Elements.{All-nil, All-cons, All-push, All-more, All-contains, Contains-push, Contains-push_cases, Contains-append_left, Contains-get_or}
+use Rattle.std.proofs.lemmas.List.Elements.{All-nil, All-cons, All-push, All-more, All-contains, All-from_get_or, Contains-push, Contains-push_cases, Contains-append_left, Contains-get_or}
 use Rattle.cpt_task.specs.Shape.{TaskShape}
 use Rattle.cpt_task.specs.Timeline.{idle}
 use Rattle.cpt_reach.specs.Reached.{IsReached, IsClosed, action_at}
@@ -184,3 +184,29 @@ row_is rows p read slice lt e f = f ∙ e ∙ get_or_default rows p read [] lt
 -- a row has only actions
 pub row_below : (t : TaskShape) (rows : List (List ℕ)) (p : ℕ) → IsUsers t rows → AllBelow (length t.actions) (row_at rows p)
 row_below t rows p users k d lt = users.within p _ (Contains-get_or (row_at rows p) k d lt)
+
+lt_or_le : (a b : ℕ) → (a < b) ⊎ (b ≤ a)
+lt_or_le a b = grind arith
+
+clear_at : (m : List Bool) → All (λ b. b ≡ false) m → (p : ℕ) → is_marked m p ≡ false
+clear_at m clear p = elim (lt_or_le p (length m)) [ inl lt ↦ clear p false lt | inr le ↦ get_or-eq_default m false le ]
+
+-- the initial atoms are sound marks
+pub start_sound : (t : TaskShape) (m : List Bool) (g : List ℕ) (m' : List Bool) (g' : List ℕ) → All (λ b. b ≡ false) m → MarksAll t.init m g m' g' → IsSound t m'
+start_sound t m g m' g' clear marks p shown =
+    elim (marks.only p shown) [
+      | inl old ↦ let blank : is_marked m p ≡ false = clear_at m clear p in absurd (let z : ⊥ = cc in z)
+      | inr has ↦ All-contains (IsReached t) t.init p (reached_is_least t).initial has
+    ]
+
+-- from the initial atoms on exactly the reached atoms are marked
+pub reached_exactly : (t : TaskShape) (m : List Bool) (g : List ℕ) (m' : List Bool) (g' : List ℕ) (m'' : List Bool) (g'' : List ℕ) (m3 : List Bool)
+    → length m ≡ length t.atoms → MarksAll t.init m g m' g' → Settles t (λ a. a < length t.actions) m' g' m'' g'' → Spreads t m'' m3 → MarksReached t m3
+reached_exactly t m g m' g' m'' g'' m3 size marks visited spread = record {
+  size = spread.size ∙ visited.grows.size ∙ marks.grows.size ∙ size;
+  sound = spread.sound;
+  whole = λ p reached. reached (is_marked m3) (record {
+    initial = λ k d lt. spread.kept _ (visited.grows.kept _ (marks.marked k d lt));
+    added = All-from_get_or (λ a. AreMarked m3 a.pre → AreMarked m3 a.add) t.actions idle (λ i lt. spread.closed i lt);
+  });
+}

@@ -1,6 +1,9 @@
-use Rattle.std.proofs.Common.{◌≡◌, ◌≢◌, ℕ, zero, suc, ◌+◌, ◌-◌, ◌<◌, ◌≤◌, ◌⊎◌, inl, inr, Bool, true, false, ◌||◌, nat_eq, nat_lt, cond, Option, None, Some, List, [], ◌∷◌, length, get_or, All, Contains, refl, sym, ap, ◌∙◌, subst, arith}
+use Rattle.std.proofs.Common.{◌≡◌, ◌≢◌, ℕ, zero, suc, ◌+◌, ◌-◌, ◌<◌, ◌≤◌, ◌⊎◌, inl, inr, Bool, true, false, ◌||◌, nat_eq, nat_lt, cond, Option, None, Some, Result, Ok, Err, List, [], ◌∷◌, length, get_or, All, Contains, refl, sym, ap, ◌∙◌, subst, arith}
 use Rattle.std.specs.List.{list_any, cons_option, position, position_or_len}
-use Rattle.std.specs.List.Sorted.{IsStrictlyIncreasing}
+use Rattle.std.specs.List.Sorted.{IsStrictlyIncreasing, IsBinarySearchResult}
+use Rattle.std.specs.Ordering.{nat_cmp}
+use Rattle.std.specs.Result.{result_ok}
+use Rattle.std.proofs.lemmas.List.Sorted.{searched}
 use Rattle.std.specs.Cmp.{nat_eq_equiv}
 use Rattle.std.proofs.lemmas.Bool.{eqb-true, eq-eqb, ne_eqb}
 use Rattle.std.proofs.lemmas.Bool.Decides.{nat_tests, eqb_tells}
@@ -174,3 +177,23 @@ renumbered-increasing kept inc (x ∷ xs) up =
     cons_increasing (new_number kept x) (renumbered kept xs)
       (λ j e. renumbered-all kept (λ p. x < p) (λ i. j < i) (λ p i less f. let a = at-new_number kept x j e in let b = at-new_number kept p i f in less_place kept inc j i a.0 b.0 (rw (a.1, b.1) less)) xs (head_below x xs up))
       (renumbered-increasing kept inc xs (tail_increasing x xs up))
+
+pub not_decreasing : (xs : List ℕ) → IsStrictlyIncreasing xs → (i j : ℕ) → i ≤ j → j < length xs → get_or xs i 0 ≤ get_or xs j 0
+not_decreasing xs inc i j le lt =
+    let e : i + (j - i) ≡ j = omega arith in
+    let far : get_or xs i 0 ≤ get_or xs (i + (j - i)) 0 = no_less xs inc i (j - i) (omega arith) in
+    omega (arith, far, ap (λ n. get_or xs n 0) e)
+
+lt_or_le : (a b : ℕ) → (a < b) ⊎ (b ≤ a)
+lt_or_le a b = grind arith
+
+-- what a search in an increasing list found is the new number
+pub found_at : (xs : List ℕ) (p : ℕ) → IsStrictlyIncreasing xs → (r : Result ℕ ℕ) → IsBinarySearchResult (λ y. nat_cmp y p) xs r → new_number xs p ≡ result_ok r
+found_at xs p inc (Ok i) found =
+    let h = searched xs p (Ok i) found (not_decreasing xs inc) in new_number-at xs inc i p h.0 h.1
+found_at xs p inc (Err i) found =
+    let h = searched xs p (Err i) found (not_decreasing xs inc) in
+    new_number-none xs p (λ k lt e. elim (lt_or_le k i) [
+      | inl less ↦ let low : get_or xs k 0 < p = h.1 k less in omega (arith, low, e)
+      | inr le ↦ let high : p < get_or xs k 0 = h.2 k le lt in omega (arith, high, e)
+    ])

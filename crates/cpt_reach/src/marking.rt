@@ -1,6 +1,6 @@
 //! Which atoms are reached: each new atom goes on an agenda, and then the actions that need it are looked at.
 
-ghost use Rattle.std.specs.Prelude.{◌≡◌, ◌<◌, ◌^◌, ℕ, [], ◌∷◌, OnOk, IfOk, MatchBool, length, All, Contains};
+ghost use Rattle.std.specs.Prelude.{◌≡◌, ◌<◌, ◌^◌, ℕ, false, [], ◌∷◌, OnOk, IfOk, MatchBool, length, All, Contains};
 ghost use Rattle.cpt_task.specs.Shape.{InBounds};
 ghost use Rattle.cpt_reach.specs.Reached.{action_at};
 ghost use Rattle.cpt_reach.specs.Marking.{is_marked, AreMarked, HasUnmarked, AllBelow, MarksAll, Settles, IsSettled, IsSound, IsUsers, Spreads, MarksReached};
@@ -102,15 +102,25 @@ fn spread(
     Ok(())
 }
 
+fn mark_reached(alloc: Global, task: &Task, marks: &mut [bool]) -> Result<(), Memory>
+    requires bounds { InBounds task.now }
+    requires size { length marks.old ≡ length task.now.atoms }
+    requires clear { All (λ mark. mark ≡ false) marks.old }
+    ensures { OnOk result (MarksReached task.now marks.new) }
+{
+    let users = users_of(alloc, task)?;
+    let mut agenda = Vec::new(alloc);
+    mark_all(marks, &mut agenda, task.init())?;
+    visit_every(task, marks, &mut agenda)?;
+    spread(task, &users, marks, &mut agenda)?;
+    Ok(())
+}
+
 /// Marks exactly the reached atoms.
 pub fn reached_marks(alloc: Global, task: &Task) -> Result<Vec<bool>, Memory>
     ensures { IfOk result (λ marks. MarksReached task.now marks.items) }
 {
-    let users = users_of(alloc, task)?;
     let mut marks = vec![in alloc; false; task.atoms().len()]?;
-    let mut agenda = Vec::new(alloc);
-    mark_all(&mut marks, &mut agenda, task.init())?;
-    visit_every(task, &mut marks, &mut agenda)?;
-    spread(task, &users, &mut marks, &mut agenda)?;
+    mark_reached(alloc, task, &mut marks)?;
     Ok(marks)
 }
