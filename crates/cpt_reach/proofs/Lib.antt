@@ -1,3 +1,4 @@
+pub mod KeptLemmas
 pub mod KeptPlans
 pub mod ListLemmas
 pub mod MarkLemmas

@@ -58,7 +58,11 @@ one_task old atoms actions new other a b =
   make : List (List ℕ) → List Action → List ℕ → List ℕ → TaskShape
   make atoms actions init goal = record { atoms = atoms; actions = actions; init = init; goal = goal }
 
-one_part : (t : TaskShape) (p q : Pruned) → IsKeptPart t p.atoms p.actions p.task → IsKeptPart t q.atoms q.actions q.task → Ok {E = PruneError} p ≡ Ok q
+done : Pruned → Result Pruned PruneError
+done p = Ok p
+
+one_part : (t : TaskShape) (p q : Pruned) → IsKeptPart t p.atoms p.actions p.task → IsKeptPart t q.atoms q.actions q.task → done p ≡ done q
+unfolding done
 one_part t p q a b =
     let atoms : p.atoms ≡ q.atoms = one_list (IsKeptAtom t) p.atoms q.atoms a.kept_atoms b.kept_atoms in
     let actions : p.actions ≡ q.actions = one_list (IsKeptAction t) p.actions q.actions a.kept_actions b.kept_actions in
@@ -103,7 +107,7 @@ both_limits t d e (inl h) (inr i) = absurd (limits_differ t h.1 i.1)
 both_limits t d e (inr h) (inl i) = absurd (limits_differ t i.1 h.1)
 
 same_answer : (t : TaskShape) (r s : Result Pruned PruneError) → Answer t r → Answer t s → r ≡ s
-unfolding Answer
+unfolding Answer done
 same_answer t (Ok p) (Ok q) a b = one_part t p q a.0 b.0
 same_answer t (Ok p) (Err (Limit l)) a b = absurd (against_part t p a (Limit l) b)
 same_answer t (Err (Limit l)) (Ok p) a b = absurd (against_part t p b (Limit l) a)

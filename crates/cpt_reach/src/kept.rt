@@ -67,6 +67,7 @@ pub fn kept_task(
     atoms: &[u32],
     actions: &[u32],
 ) -> Result<Task, Memory>
+    requires bounds { InBounds task.now }
     requires kept_atoms { IsListOf (IsKeptAtom task.now) atoms.now }
     requires kept_actions { IsListOf (IsKeptAction task.now) actions.now }
     requires few_atoms { length atoms.now < 2 ^ 31 }

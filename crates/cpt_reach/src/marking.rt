@@ -118,7 +118,8 @@ fn mark_reached(alloc: Global, task: &Task, marks: &mut [bool]) -> Result<(), Me
 
 /// Marks exactly the reached atoms.
 pub fn reached_marks(alloc: Global, task: &Task) -> Result<Vec<bool>, Memory>
-    ensures { IfOk result (λ marks. MarksReached task.now marks.items) }
+    ensures reached { IfOk result (λ marks. MarksReached task.now marks.items) }
+    ensures bounds { InBounds task.now }
 {
     let mut marks = vec![in alloc; false; task.atoms().len()]?;
     mark_reached(alloc, task, &mut marks)?;

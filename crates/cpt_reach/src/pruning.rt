@@ -1,8 +1,10 @@
 //! Pruning a task.
 
 ghost use Rattle.std.specs.Prelude.{◌≡◌, ◌<◌, ◌≤◌, ◌^◌, ℕ, true, IfOk, length};
+ghost use Rattle.cpt_task.specs.Shape.{InBounds};
 ghost use Rattle.cpt_reach.specs.Reached.{IsKeptAtom, IsKeptAction};
 ghost use Rattle.cpt_reach.specs.Kept.{IsListOf};
+ghost use Rattle.cpt_reach.specs.Marking.{MarksReached};
 ghost use Rattle.cpt_reach.specs.Plans.{KeepsPlans};
 ghost use Rattle.cpt_reach.specs.Pruning.{Prunes, KeptNumbers};
 
@@ -43,14 +45,30 @@ impl From<Memory> for PruneError {
     }
 }
 
+fn kept_atoms(alloc: Global, task: &Task, marks: &mut [bool]) -> Result<Vec<u32>, Memory>
+    requires bounds { InBounds task.now }
+    requires reached { MarksReached task.now marks.old }
+    ensures { IfOk result (λ atoms. IsListOf (IsKeptAtom task.now) atoms.items) }
+{
+    mark_too(marks, task.goal());
+    marked_numbers(alloc, marks)
+}
+
+fn kept_actions(alloc: Global, task: &Task, marks: &[bool]) -> Result<Vec<u32>, Memory>
+    requires reached { MarksReached task.now marks.now }
+    ensures { IfOk result (λ actions. IsListOf (IsKeptAction task.now) actions.items) }
+{
+    ready_actions(alloc, task, marks)
+}
+
 /// The numbers of the kept atoms, and those of the kept actions.
 fn kept_numbers(alloc: Global, task: &Task) -> Result<(Vec<u32>, Vec<u32>), Memory>
-    ensures { IfOk result (λ numbers. KeptNumbers task.now numbers.0.items numbers.1.items) }
+    ensures kept { IfOk result (λ numbers. KeptNumbers task.now numbers.0.items numbers.1.items) }
+    ensures bounds { InBounds task.now }
 {
     let mut marks = reached_marks(alloc, task)?;
-    let actions = ready_actions(alloc, task, &marks)?;
-    mark_too(&mut marks, task.goal());
-    let atoms = marked_numbers(alloc, &marks)?;
+    let actions = kept_actions(alloc, task, &marks)?;
+    let atoms = kept_atoms(alloc, task, &mut marks)?;
     Ok((atoms, actions))
 }
 
