@@ -1,4 +1,4 @@
-use Rattle.std.proofs.Common.{◌≡◌, ℕ, ◌<◌, ◌≤◌, ◌^◌, ◌⊎◌, inl, inr, Bool, true, nat_lt, List, length, get_or, map, Result, Ok, Err, IsOk, All, Contains, refl, sym, ap, ◌∙◌, subst, arith}
+use Rattle.std.proofs.Common.{◌≡◌, ℕ, ◌<◌, ◌^◌, inl, inr, Bool, true, nat_lt, List, length, get_or, map, Result, Ok, Err, IsOk, All, refl, sym, ap, ◌∙◌, subst, arith}
 use Rattle.std.proofs.lemmas.Bool.{ltb-true, lt-ltb}
 use Rattle.std.proofs.lemmas.List.{length-map}
 use Rattle.std.proofs.lemmas.List.Elements.{All-contains, All-map, All-weaker}
@@ -9,7 +9,7 @@ use Rattle.cpt_task.specs.declared.task.BuildError.TheVariants.{BadAtom, BadDura
 use Rattle.cpt_task.specs.Building.{Builds, IsFault, made_of}
 use Rattle.cpt_task.specs.Timeline.{idle}
 use Rattle.cpt_task.proofs.BuildingLemmas.{none_bad, all_at}
-use Rattle.cpt_reach.specs.Reached.{IsReached, IsKeptAtom, IsKeptAction, action_at, IsClosed}
+use Rattle.cpt_reach.specs.Reached.{IsKeptAtom, IsKeptAction, action_at}
 use Rattle.cpt_reach.specs.Kept.{IsListOf, IsKeptPart, renumbered, renumbered_action, name_at}
 use Rattle.cpt_reach.specs.Marking.{is_marked, AllBelow, MarksReached, MarksToo, IsReady}
 use Rattle.cpt_reach.proofs.ListLemmas.{list_as}
@@ -52,18 +52,21 @@ kept_in_bounds old new atoms actions fine part few_atoms few_actions = record {
   few_atoms = omega (arith, size, few_atoms);
   few_actions = omega (arith, count, few_actions);
   actions = subst (All (HasAtomsBelow (length new.atoms))) (sym part.new_actions)
-    (All-map (HasAtomsBelow (length new.atoms)) f actions (λ k d lt. record { pre = below _; add = below _; dele = below _ }));
+      (All-map (HasAtomsBelow (length new.atoms)) f actions (λ k d lt. record { pre = below _; add = below _; dele = below _ }));
   durations = subst (All (λ a. IsDuration a.dur)) (sym part.new_actions)
-    (All-map (λ a. IsDuration a.dur) f actions (λ k d lt. fine.durations _ idle (part.kept_actions.sound k d lt).0));
+      (All-map (λ a. IsDuration a.dur) f actions (λ k d lt. fine.durations _ idle (part.kept_actions.sound k d lt).0));
   init = subst (AllBelow (length new.atoms)) (sym part.new_init) (below old.init);
   goal = subst (AllBelow (length new.atoms)) (sym part.new_goal) (below old.goal);
 } where
   f : ℕ → Action
   f = λ a. renumbered_action atoms (action_at old a)
+
   size : length new.atoms ≡ length atoms
   size = ap length part.new_atoms ∙ length-map atoms (name_at old)
+
   count : length new.actions ≡ length actions
   count = ap length part.new_actions ∙ length-map actions (λ a. renumbered_action atoms (action_at old a))
+
   below : (xs : List ℕ) → AllBelow (length new.atoms) (renumbered atoms xs)
   below xs = subst (λ n. AllBelow n (renumbered atoms xs)) (sym (ap length part.new_atoms ∙ length-map atoms (name_at old))) (renumbered-below atoms xs)
 
@@ -72,8 +75,10 @@ pub atoms_below : (old : TaskShape) (atoms : List ℕ) → InBounds old → IsLi
 atoms_below old atoms fine list = All-weaker (IsKeptAtom old) (λ p. p < length old.atoms) (kept_below old fine) atoms list.sound where
   in_range : TaskShape → ℕ → Bool
   in_range old p = nat_lt p (length old.atoms)
+
   all_in : (old : TaskShape) (xs : List ℕ) → AllBelow (length old.atoms) xs → All (λ p. in_range old p ≡ true) xs
   all_in old xs low k d lt = let h : get_or xs k d < length old.atoms = low k d lt in lt-ltb _ _ h
+
   kept_below : (old : TaskShape) → InBounds old → (p : ℕ) → IsKeptAtom old p → p < length old.atoms
   kept_below old fine p (inl r) = ltb-true p (length old.atoms) (r (in_range old) (record {
     initial = all_in old old.init fine.init;

@@ -1,18 +1,18 @@
-use Rattle.std.proofs.Common.{◌≡◌, ℕ, zero, suc, ◌+◌, ◌<◌, ◌≤◌, ◌↔◌, ◌⊎◌, inl, inr, true, Some, unwrap_or, List, [], ◌∷◌, length, get_or, map, All, Contains, refl, sym, ap, ◌∙◌, subst, arith}
+use Rattle.std.proofs.Common.{◌≡◌, ℕ, ◌+◌, ◌<◌, inr, unwrap_or, List, [], ◌∷◌, length, get_or, map, All, refl, sym, ap, ◌∙◌, subst, arith}
 use Rattle.std.proofs.lemmas.List.{get_or-map, length-map}
 use Rattle.std.proofs.lemmas.List.Elements.{All-contains_itself, All-weaker, All-map, All-head, All-tail}
 use Rattle.cpt_task.specs.declared.task.Action.{Action}
 use Rattle.cpt_task.specs.declared.plan.Occ.{Occ}
 use Rattle.cpt_task.specs.Shape.{TaskShape, InBounds}
 use Rattle.cpt_task.specs.Interference.{Interferes}
-use Rattle.cpt_task.specs.Timeline.{action_of, end_of, IsPlan, IsOccurrence, makespan, holds_at, HoldsThen, HoldsFrom, IsMet, ClashBetween, Clashes, IsApart, ReachesGoal, IsValid, occurrence_at}
-use Rattle.cpt_task.specs.Optimal.{IsOptimal, IsRefuted, HasNoPlan}
+use Rattle.cpt_task.specs.Timeline.{action_of, IsPlan, IsOccurrence, makespan, HoldsThen, HoldsFrom, IsMet, ClashBetween, IsApart, ReachesGoal, IsValid, occurrence_at}
+use Rattle.cpt_task.specs.Optimal.{IsOptimal}
 use Rattle.cpt_reach.specs.Reached.{IsKeptAction, action_at}
 use Rattle.cpt_reach.specs.Kept.{new_number, renumbered, renumbered_action, IsKeptPart}
-use Rattle.cpt_reach.specs.Plans.{IsKeptPlan, renumbered_occurrence, renumbered_plan, KeepsPlans, KeptPartKeepsPlans}
+use Rattle.cpt_reach.specs.Plans.{IsKeptPlan, renumbered_occurrence, renumbered_plan, KeptPartKeepsPlans}
 use Rattle.cpt_reach.proofs.Numbering.{renumbered-all, all-renumbered, new_number-at}
 use Rattle.cpt_reach.proofs.Reaching.{valid_is_kept}
-use Rattle.cpt_reach.proofs.Renaming.{IsCovered, kept_is_covered, interferes_new, interferes_old, place_of_action, action_of-renumbered, end_of-renumbered}
+use Rattle.cpt_reach.proofs.Renaming.{kept_is_covered, interferes_new, interferes_old, place_of_action, action_of-renumbered, end_of-renumbered}
 use Rattle.cpt_reach.proofs.Timelines.{makespan-renumbered, holds-renumbered}
 
 -- what holds of each element of a mapped list
@@ -28,9 +28,10 @@ clash_old old new atoms actions part o q ko kq clash =
     let ao = action_of-renumbered old new atoms actions part o ko in
     let aq = action_of-renumbered old new atoms actions part q kq in
     let h : Interferes (renumbered_action atoms (action_of old o)) (action_of new (renumbered_occurrence actions q)) = subst (λ a. Interferes a (action_of new (renumbered_occurrence actions q))) ao clash.1 in
-    let i : Interferes (renumbered_action atoms (action_of old o)) (renumbered_action atoms (action_of old q)) = subst (λ a. Interferes (renumbered_action atoms (action_of old o)) a) aq h in
-    (record { first = subst (λ e. o.start < e) eq clash.0.first; second = subst (λ e. q.start < e) eo clash.0.second },
-      interferes_old atoms part.kept_atoms.increasing (action_of old o) (action_of old q) i)
+    let i : Interferes (renumbered_action atoms (action_of old o)) (renumbered_action atoms (action_of old q)) = subst (λ a. Interferes (renumbered_action atoms (action_of old o)) a) aq h in (
+      record { first = subst (λ e. o.start < e) eq clash.0.first; second = subst (λ e. q.start < e) eo clash.0.second },
+      interferes_old atoms part.kept_atoms.increasing (action_of old o) (action_of old q) i,
+    )
 
 clash_new : (old new : TaskShape) (atoms actions : List ℕ) → IsKeptPart old atoms actions new → (o q : Occ) → IsKeptAction old o.act → IsKeptAction old q.act
     → ClashBetween old o q → ClashBetween new (renumbered_occurrence actions o) (renumbered_occurrence actions q)
@@ -40,10 +41,11 @@ clash_new old new atoms actions part o q ko kq clash =
     let ao = action_of-renumbered old new atoms actions part o ko in
     let aq = action_of-renumbered old new atoms actions part q kq in
     let i : Interferes (renumbered_action atoms (action_of old o)) (renumbered_action atoms (action_of old q)) =
-      interferes_new atoms part.kept_atoms.increasing (action_of old o) (action_of old q) (kept_is_covered old atoms part.kept_atoms o.act ko) (kept_is_covered old atoms part.kept_atoms q.act kq) clash.1 in
-    let h : Interferes (renumbered_action atoms (action_of old o)) (action_of new (renumbered_occurrence actions q)) = subst (λ a. Interferes (renumbered_action atoms (action_of old o)) a) (sym aq) i in
-    (record { first = subst (λ e. o.start < e) (sym eq) clash.0.first; second = subst (λ e. q.start < e) (sym eo) clash.0.second },
-      subst (λ a. Interferes a (action_of new (renumbered_occurrence actions q))) (sym ao) h)
+    interferes_new atoms part.kept_atoms.increasing (action_of old o) (action_of old q) (kept_is_covered old atoms part.kept_atoms o.act ko) (kept_is_covered old atoms part.kept_atoms q.act kq) clash.1 in
+    let h : Interferes (renumbered_action atoms (action_of old o)) (action_of new (renumbered_occurrence actions q)) = subst (λ a. Interferes (renumbered_action atoms (action_of old o)) a) (sym aq) i in (
+      record { first = subst (λ e. o.start < e) (sym eq) clash.0.first; second = subst (λ e. q.start < e) (sym eo) clash.0.second },
+      subst (λ a. Interferes a (action_of new (renumbered_occurrence actions q))) (sym ao) h,
+    )
 
 nobody : Occ
 nobody = record { act = 0; start = 0 }
@@ -78,7 +80,7 @@ met_new old new atoms actions part plan kept o ko met =
     let A = action_of old o in
     let Q : Action → Type 0 = λ a. All (HoldsFrom new (renumbered_plan actions plan) o.start (o.start + a.dur)) a.pre in
     let h : Q (renumbered_action atoms A) = renumbered-all atoms (HoldsFrom old plan o.start (o.start + A.dur)) (HoldsFrom new (renumbered_plan actions plan) o.start (o.start + A.dur))
-      (λ p j holds e time low high. holds-renumbered old new atoms actions part plan kept p j e time ∙ holds time low high) A.pre met in
+    (λ p j holds e time low high. holds-renumbered old new atoms actions part plan kept p j e time ∙ holds time low high) A.pre met in
     subst Q (sym (action_of-renumbered old new atoms actions part o ko)) h
 
 met_old : (old new : TaskShape) (atoms actions : List ℕ) → IsKeptPart old atoms actions new → (plan : List Occ) → IsKeptPlan old plan → (o : Occ) → IsKeptAction old o.act
@@ -88,13 +90,13 @@ met_old old new atoms actions part plan kept o ko met =
     let Q : Action → Type 0 = λ a. All (HoldsFrom new (renumbered_plan actions plan) o.start (o.start + a.dur)) a.pre in
     let h : Q (renumbered_action atoms A) = subst Q (action_of-renumbered old new atoms actions part o ko) met in
     all-renumbered atoms part.kept_atoms.increasing (HoldsFrom old plan o.start (o.start + A.dur)) (HoldsFrom new (renumbered_plan actions plan) o.start (o.start + A.dur))
-      (λ p j holds e time low high. sym (holds-renumbered old new atoms actions part plan kept p j e time) ∙ holds time low high) A.pre (kept_is_covered old atoms part.kept_atoms o.act ko).pre h
+    (λ p j holds e time low high. sym (holds-renumbered old new atoms actions part plan kept p j e time) ∙ holds time low high) A.pre (kept_is_covered old atoms part.kept_atoms o.act ko).pre h
 
 goal_new : (old new : TaskShape) (atoms actions : List ℕ) → IsKeptPart old atoms actions new → (plan : List Occ) → IsKeptPlan old plan → ReachesGoal old plan → ReachesGoal new (renumbered_plan actions plan)
 goal_new old new atoms actions part plan kept reaches =
     let m = makespan old plan in
     let h : All (HoldsThen new (renumbered_plan actions plan) m) (renumbered atoms old.goal) = renumbered-all atoms (HoldsThen old plan m) (HoldsThen new (renumbered_plan actions plan) m)
-      (λ p j holds e. holds-renumbered old new atoms actions part plan kept p j e m ∙ holds) old.goal reaches in
+    (λ p j holds e. holds-renumbered old new atoms actions part plan kept p j e m ∙ holds) old.goal reaches in
     let i = subst (λ xs. All (HoldsThen new (renumbered_plan actions plan) m) xs) (sym part.new_goal) h in
     subst (λ n. All (HoldsThen new (renumbered_plan actions plan) n) new.goal) (sym (makespan-renumbered old new atoms actions part plan kept)) i
 
@@ -104,17 +106,17 @@ goal_old old new atoms actions part plan kept reaches =
     let i = subst (λ n. All (HoldsThen new (renumbered_plan actions plan) n) new.goal) (makespan-renumbered old new atoms actions part plan kept) reaches in
     let h : All (HoldsThen new (renumbered_plan actions plan) m) (renumbered atoms old.goal) = subst (λ xs. All (HoldsThen new (renumbered_plan actions plan) m) xs) part.new_goal i in
     all-renumbered atoms part.kept_atoms.increasing (HoldsThen old plan m) (HoldsThen new (renumbered_plan actions plan) m)
-      (λ p j holds e. sym (holds-renumbered old new atoms actions part plan kept p j e m) ∙ holds) old.goal
-      (λ k d lt. part.kept_atoms.whole _ (inr (All-contains_itself old.goal k d lt))) h
+    (λ p j holds e. sym (holds-renumbered old new atoms actions part plan kept p j e m) ∙ holds) old.goal
+    (λ k d lt. part.kept_atoms.whole _ (inr (All-contains_itself old.goal k d lt))) h
 
 plan_new : (old new : TaskShape) (atoms actions : List ℕ) → IsKeptPart old atoms actions new → (plan : List Occ) → IsKeptPlan old plan → IsPlan new (renumbered_plan actions plan)
 plan_new old new atoms actions part plan kept =
     All-map (IsOccurrence new) (renumbered_occurrence actions) plan (λ k d lt.
-      let o = get_or plan k d in
-      let found = place_of_action old new atoms actions part o (kept k d lt) in
-      let e : unwrap_or (new_number actions o.act) 0 ≡ found.0 = ap (λ n. unwrap_or n 0) found.1 in
-      let size : length new.actions ≡ length actions = ap length part.new_actions ∙ length-map actions (λ a. renumbered_action atoms (action_at old a)) in
-      omega (arith, e, size, found.2))
+    let o = get_or plan k d in
+    let found = place_of_action old new atoms actions part o (kept k d lt) in
+    let e : unwrap_or (new_number actions o.act) 0 ≡ found.0 = ap (λ n. unwrap_or n 0) found.1 in
+    let size : length new.actions ≡ length actions = ap length part.new_actions ∙ length-map actions (λ a. renumbered_action atoms (action_at old a)) in
+    omega (arith, e, size, found.2))
 
 -- a plan of kept actions is valid exactly where the renumbered one is
 pub valid_new : (old new : TaskShape) (atoms actions : List ℕ) → IsKeptPart old atoms actions new → (plan : List Occ) → IsKeptPlan old plan → IsValid old plan → IsValid new (renumbered_plan actions plan)
@@ -143,7 +145,7 @@ unfolding older_occurrence
 back_and_forth old new atoms actions part [] all = refl
 back_and_forth old new atoms actions part (o ∷ os) all =
     let e : unwrap_or (new_number actions (get_or actions o.act 0)) 0 ≡ o.act =
-      ap (λ n. unwrap_or n 0) (new_number-at actions part.kept_actions.increasing o.act (get_or actions o.act 0) (All-head (λ q. q.act < length actions) o os all) refl) in
+    ap (λ n. unwrap_or n 0) (new_number-at actions part.kept_actions.increasing o.act (get_or actions o.act 0) (All-head (λ q. q.act < length actions) o os all) refl) in
     let make : ℕ → Occ = λ n. record { act = n; start = o.start } in
     ap (λ n. make n ∷ renumbered_plan actions (map (older_occurrence actions) os)) e
     ∙ ap (λ qs. o ∷ qs) (back_and_forth old new atoms actions part os (All-tail (λ q. q.act < length actions) o os all))
@@ -153,10 +155,11 @@ pub onto : (old new : TaskShape) (atoms actions : List ℕ) → IsKeptPart old a
 unfolding older_occurrence
 onto old new atoms actions part plan of_new =
     let size : length new.actions ≡ length actions = ap length part.new_actions ∙ length-map actions (λ a. renumbered_action atoms (action_at old a)) in
-    let small : All (λ o. o.act < length actions) plan = All-weaker (IsOccurrence new) (λ o. o.act < length actions) (λ o lt. omega (arith, lt, size)) plan of_new in
-    (map (older_occurrence actions) plan,
+    let small : All (λ o. o.act < length actions) plan = All-weaker (IsOccurrence new) (λ o. o.act < length actions) (λ o lt. omega (arith, lt, size)) plan of_new in (
+      map (older_occurrence actions) plan,
       All-map (λ o. IsKeptAction old o.act) (older_occurrence actions) plan (λ k d lt. part.kept_actions.sound _ 0 (small k d lt)),
-      back_and_forth old new atoms actions part plan small)
+      back_and_forth old new atoms actions part plan small,
+    )
 
 -- a valid plan of the kept part is the renumbering of a valid plan of the same makespan
 older_valid : (old new : TaskShape) (atoms actions : List ℕ) → IsKeptPart old atoms actions new → (plan : List Occ) → IsValid new plan → (older : List Occ) × IsValid old older × (makespan new plan ≡ makespan old older)
@@ -177,16 +180,16 @@ optimal_new old new atoms actions fine part plan best =
     record {
       valid = valid_new old new atoms actions part plan kept best.valid;
       least = λ other valid.
-        let back = older_valid old new atoms actions part other valid in
-        omega (arith, makespan-renumbered old new atoms actions part plan kept, best.least back.0 back.1, back.2);
+          let back = older_valid old new atoms actions part other valid in
+          omega (arith, makespan-renumbered old new atoms actions part plan kept, best.least back.0 back.1, back.2);
     }
 
 optimal_old : (old new : TaskShape) (atoms actions : List ℕ) → InBounds old → IsKeptPart old atoms actions new → (plan : List Occ) → IsKeptPlan old plan → IsOptimal new (renumbered_plan actions plan) → IsOptimal old plan
 optimal_old old new atoms actions fine part plan kept best = record {
   valid = valid_old old new atoms actions part plan kept best.valid;
   least = λ other valid.
-    let next = newer_valid old new atoms actions fine part other valid in
-    omega (arith, makespan-renumbered old new atoms actions part plan kept, best.least next.0 next.1, next.2);
+      let next = newer_valid old new atoms actions fine part other valid in
+      omega (arith, makespan-renumbered old new atoms actions part plan kept, best.least next.0 next.1, next.2);
 }
 
 -- the kept part of a task has its plans
@@ -198,8 +201,10 @@ keeps_plans old new atoms actions fine part = record {
   optimal = λ plan. (λ b. (valid_is_kept old fine plan b.valid, optimal_new old new atoms actions fine part plan b), λ h. optimal_old old new atoms actions fine part plan h.0 h.1);
   refuted = λ bound. (
     λ none plan valid short. let back = older_valid old new atoms actions part plan valid in none back.0 back.1 (omega (arith, short, back.2)),
-    λ none plan valid short. let next = newer_valid old new atoms actions fine part plan valid in none next.0 next.1 (omega (arith, short, next.2)));
+    λ none plan valid short. let next = newer_valid old new atoms actions fine part plan valid in none next.0 next.1 (omega (arith, short, next.2)),
+  );
   no_plan = (
     λ none plan valid. let back = older_valid old new atoms actions part plan valid in none back.0 back.1,
-    λ none plan valid. let next = newer_valid old new atoms actions fine part plan valid in none next.0 next.1);
+    λ none plan valid. let next = newer_valid old new atoms actions fine part plan valid in none next.0 next.1,
+  );
 }

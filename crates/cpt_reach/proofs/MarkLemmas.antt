@@ -1,12 +1,11 @@
-use Rattle.std.proofs.Common.{◌≡◌, ◌≢◌, ℕ, zero, suc, ◌+◌, ◌*◌, ◌<◌, ◌≤◌, ◌⊎◌, inl, inr, Bool, true, false, List, [], ◌∷◌, ◌++◌, length, get_or, take, set, take_all, All, Contains, refl, sym, ap, ◌∙◌, subst, arith, length-append}
+use Rattle.std.proofs.Common.{◌≡◌, ◌≢◌, ℕ, zero, suc, ◌+◌, ◌<◌, ◌≤◌, ◌⊎◌, inl, inr, Bool, true, false, List, [], ◌∷◌, ◌++◌, length, get_or, take, set, take_all, All, Contains, refl, sym, ap, ◌∙◌, subst, arith, length-append}
 use Rattle.std.proofs.Math.ListN.{length-set, get_or-eq_default}
-use Rattle.std.proofs.lemmas.Bool.Decides.{nat_tests}
 use Rattle.std.proofs.lemmas.List.{get_or-set_same, get_or-set_other, get_or_default, take_more}
 use Rattle.std.proofs.lemmas.List.Elements.{All-nil, All-cons, All-push, All-more, All-contains, All-from_get_or, Contains-push, Contains-push_cases, Contains-append_left, Contains-get_or}
 use Rattle.cpt_task.specs.Shape.{TaskShape}
 use Rattle.cpt_task.specs.Timeline.{idle}
-use Rattle.cpt_reach.specs.Reached.{IsReached, IsClosed, action_at}
-use Rattle.cpt_reach.specs.Marking.{is_marked, AreMarked, HasUnmarked, unmarked, work, IsOpen, IsSettled, IsSound, AllBelow, Grows, MarksAll, Settles, Spreads, MarksReached, row_at, IsUsers}
+use Rattle.cpt_reach.specs.Reached.{IsReached, action_at}
+use Rattle.cpt_reach.specs.Marking.{is_marked, AreMarked, HasUnmarked, unmarked, work, IsSettled, IsSound, AllBelow, Grows, MarksAll, Settles, Spreads, MarksReached, row_at, IsUsers}
 use Rattle.cpt_reach.proofs.Reaching.{reached_is_least}
 
 pub same_or_not : (q p : ℕ) → (q ≡ p) ⊎ (q ≢ p)
@@ -95,6 +94,7 @@ marks_more xs i m g m' g' m'' g'' lt a b = record {
 } where
   lit : 0 < 1
   lit = omega arith
+
   single : (x q : ℕ) → Contains (x ∷ []) q → q ≡ x
   single x q (zero, low, e) = sym e
   single x q (suc k, low, e) = absurd (omega arith)
@@ -173,9 +173,10 @@ less_work m g g' p m'' g'' e grows = omega (arith, grows.no_more_work, ap length
 -- what is left of an agenda, and what was taken from it, is below n
 pub popped_below : (n : ℕ) (g g' : List ℕ) (p : ℕ) → g ≡ g' ++ p ∷ [] → AllBelow n g → AllBelow n g' × (p < n)
 popped_below n g g' p e all =
-    let joined : AllBelow n (g' ++ p ∷ []) = subst (λ ys. AllBelow n ys) e all in
-    (λ k d lt. All-contains (λ q. q < n) (g' ++ p ∷ []) _ joined (Contains-append_left g' (p ∷ []) _ (Contains-get_or g' k d lt)),
-      All-contains (λ q. q < n) (g' ++ p ∷ []) p joined (Contains-push g' p))
+    let joined : AllBelow n (g' ++ p ∷ []) = subst (λ ys. AllBelow n ys) e all in (
+      λ k d lt. All-contains (λ q. q < n) (g' ++ p ∷ []) _ joined (Contains-append_left g' (p ∷ []) _ (Contains-get_or g' k d lt)),
+      All-contains (λ q. q < n) (g' ++ p ∷ []) p joined (Contains-push g' p),
+    )
 
 -- the row read at a place is the one of that number
 pub row_is : (rows : List (List ℕ)) (p : ℕ) (read slice : List ℕ) → p < length rows → read ≡ get_or rows p read → slice ≡ read → slice ≡ row_at rows p

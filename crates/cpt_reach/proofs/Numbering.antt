@@ -1,5 +1,5 @@
-use Rattle.std.proofs.Common.{◌≡◌, ◌≢◌, ℕ, zero, suc, ◌+◌, ◌-◌, ◌<◌, ◌≤◌, ◌⊎◌, inl, inr, Bool, true, false, ◌||◌, nat_eq, nat_lt, cond, Option, None, Some, Result, Ok, Err, List, [], ◌∷◌, length, get_or, All, Contains, refl, sym, ap, ◌∙◌, subst, arith}
-use Rattle.std.specs.List.{list_any, cons_option, position, position_or_len}
+use Rattle.std.proofs.Common.{◌≡◌, ℕ, zero, suc, ◌+◌, ◌-◌, ◌<◌, ◌≤◌, ◌⊎◌, inl, inr, Bool, true, false, ◌||◌, nat_eq, nat_lt, cond, Option, None, Some, Result, Ok, Err, List, [], ◌∷◌, length, get_or, All, Contains, refl, sym, ap, ◌∙◌, subst, arith}
+use Rattle.std.specs.List.{cons_option, position_or_len}
 use Rattle.std.specs.List.Sorted.{IsStrictlyIncreasing, IsBinarySearchResult}
 use Rattle.std.specs.Ordering.{nat_cmp}
 use Rattle.std.specs.Result.{result_ok}
@@ -8,7 +8,7 @@ use Rattle.std.specs.Cmp.{nat_eq_equiv}
 use Rattle.std.proofs.lemmas.Bool.{eqb-true, eq-eqb, ne_eqb}
 use Rattle.std.proofs.lemmas.Bool.Decides.{nat_tests, eqb_tells}
 use Rattle.std.proofs.lemmas.Grind.{get_or_default_zero}
-use Rattle.std.proofs.lemmas.List.Elements.{All-nil, All-cons, All-head, All-tail, All-contains}
+use Rattle.std.proofs.lemmas.List.Elements.{All-nil, All-cons, All-head, All-tail}
 use Rattle.std.proofs.lemmas.List.Quantifiers.{position-Some}
 use Rattle.std.proofs.lemmas.List.Sums.{position_or_len_is}
 use Rattle.std.proofs.lemmas.Map.Views.{Contains-from_any, list_any-from_Contains}
@@ -56,10 +56,10 @@ pub new_number-at : (xs : List ℕ) → IsStrictlyIncreasing xs → (i p : ℕ) 
 unfolding new_number
 new_number-at xs inc i p lt e =
     some_at (length xs) (position_or_len (nat_eq p) xs) i
-      (position_or_len_is (nat_eq p) xs i 0 (omega arith)
-        (λ k less. ne_eqb p (get_or xs k 0) (λ same. let h : get_or xs k 0 < get_or xs i 0 = strictly_less xs inc k i less lt in absurd (omega (arith, h, e, same))))
-        (λ within. eq-eqb p (get_or xs i 0) (sym e)))
-      lt
+    (position_or_len_is (nat_eq p) xs i 0 (omega arith)
+    (λ k less. ne_eqb p (get_or xs k 0) (λ same. let h : get_or xs k 0 < get_or xs i 0 = strictly_less xs inc k i less lt in absurd (omega (arith, h, e, same))))
+    (λ within. eq-eqb p (get_or xs i 0) (sym e)))
+    lt
 
 -- a new number is the place of the old one
 pub at-new_number : (xs : List ℕ) (p i : ℕ) → new_number xs p ≡ Some i → (i < length xs) × (get_or xs i 0 ≡ p)
@@ -78,7 +78,7 @@ pub new_number-none : (xs : List ℕ) (p : ℕ) → ((k : ℕ) → k < length xs
 unfolding new_number nowhere
 new_number-none xs p none =
     no_place (length xs) (position_or_len (nat_eq p) xs)
-      (let e : position_or_len (nat_eq p) xs ≡ length xs = position_or_len_is (nat_eq p) xs (length xs) 0 (omega arith) (λ k lt. ne_eqb p (get_or xs k 0) (λ same. none k lt (sym same))) (λ lt. absurd (omega arith)) in omega (arith, e))
+    (let e : position_or_len (nat_eq p) xs ≡ length xs = position_or_len_is (nat_eq p) xs (length xs) 0 (omega arith) (λ k lt. ne_eqb p (get_or xs k 0) (λ same. none k lt (sym same))) (λ lt. absurd (omega arith)) in omega (arith, e))
 
 -- a kept number has a new one
 pub new_number-found : (xs : List ℕ) → IsStrictlyIncreasing xs → (p : ℕ) → Contains xs p → (i : ℕ) × (new_number xs p ≡ Some i)
@@ -133,8 +133,8 @@ all-renumbered kept inc P Q f [] has all = All-nil P
 all-renumbered kept inc P Q f (x ∷ xs) has all =
     let found = new_number-found kept inc x (All-head (Contains kept) x xs has) in
     All-cons P x xs
-      (f x found.0 (head_all Q (new_number kept x) (renumbered kept xs) found.0 found.1 all) found.1)
-      (all-renumbered kept inc P Q f xs (All-tail (Contains kept) x xs has) (tail_all Q (new_number kept x) (renumbered kept xs) all))
+    (f x found.0 (head_all Q (new_number kept x) (renumbered kept xs) found.0 found.1 all) found.1)
+    (all-renumbered kept inc P Q f xs (All-tail (Contains kept) x xs has) (tail_all Q (new_number kept x) (renumbered kept xs) all))
 
 anything : ℕ → Type 0
 anything p = Unit {0}
@@ -175,8 +175,8 @@ pub renumbered-increasing : (kept : List ℕ) → IsStrictlyIncreasing kept → 
 renumbered-increasing kept inc [] up = λ k lt. absurd (omega arith)
 renumbered-increasing kept inc (x ∷ xs) up =
     cons_increasing (new_number kept x) (renumbered kept xs)
-      (λ j e. renumbered-all kept (λ p. x < p) (λ i. j < i) (λ p i less f. let a = at-new_number kept x j e in let b = at-new_number kept p i f in less_place kept inc j i a.0 b.0 (rw (a.1, b.1) less)) xs (head_below x xs up))
-      (renumbered-increasing kept inc xs (tail_increasing x xs up))
+    (λ j e. renumbered-all kept (λ p. x < p) (λ i. j < i) (λ p i less f. let a = at-new_number kept x j e in let b = at-new_number kept p i f in less_place kept inc j i a.0 b.0 (rw (a.1, b.1) less)) xs (head_below x xs up))
+    (renumbered-increasing kept inc xs (tail_increasing x xs up))
 
 pub not_decreasing : (xs : List ℕ) → IsStrictlyIncreasing xs → (i j : ℕ) → i ≤ j → j < length xs → get_or xs i 0 ≤ get_or xs j 0
 not_decreasing xs inc i j le lt =

@@ -1,4 +1,4 @@
-use Rattle.std.proofs.Common.{◌≡◌, ◌≢◌, ℕ, zero, suc, ◌+◌, ◌<◌, ◌≤◌, ◌⊎◌, inl, inr, List, [], ◌∷◌, length, get_or, All, Contains, Result, Ok, Err, refl, sym, ap, ◌∙◌, subst, arith}
+use Rattle.std.proofs.Common.{◌≡◌, ◌≢◌, ℕ, zero, suc, ◌<◌, ◌≤◌, ◌⊎◌, inl, inr, List, [], ◌∷◌, length, get_or, Contains, Result, Ok, Err, refl, sym, ap, ◌∙◌, subst, arith}
 use Rattle.std.specs.List.Sorted.{IsStrictlyIncreasing}
 use Rattle.std.proofs.lemmas.List.Elements.{All-contains, All-cons}
 use Rattle.cpt_task.specs.declared.memory.Limit.TheVariants.{File, Certificate, Nesting, Objects, Parameters, LongList, Instances, Atoms, Actions, Start}
@@ -7,8 +7,8 @@ use Rattle.cpt_task.specs.Shape.{TaskShape}
 use Rattle.cpt_reach.specs.declared.pruning.PruneError.{PruneError}
 use Rattle.cpt_reach.specs.declared.pruning.PruneError.TheVariants.{Limit, Memory}
 use Rattle.cpt_reach.specs.declared.pruning.Pruned.{Pruned}
-use Rattle.cpt_reach.specs.Reached.{IsKeptAtom, IsKeptAction, action_at}
-use Rattle.cpt_reach.specs.Kept.{IsListOf, IsKeptPart, name_at, renumbered, renumbered_action}
+use Rattle.cpt_reach.specs.Reached.{IsKeptAtom, IsKeptAction}
+use Rattle.cpt_reach.specs.Kept.{IsListOf, IsKeptPart}
 use Rattle.cpt_reach.specs.Pruning.{HasMoreThan, HasAtMost, Prunes, OnePruning}
 use Rattle.cpt_reach.proofs.Numbering.{head_below, tail_increasing}
 
@@ -36,8 +36,8 @@ same_list (x ∷ xs) (y ∷ ys) up vp to back =
     let high : x ≤ y = head_least x xs up y (back y (in_head y ys)) in
     let heads : x ≡ y = omega (arith, low, high) in
     let tails : xs ≡ ys = same_list xs ys (tail_increasing x xs up) (tail_increasing y ys vp)
-      (λ p has. let less : x < p = All-contains (λ q. x < q) xs p (head_below x xs up) has in in_tail y ys p (omega (arith, less, heads)) (to p (in_more x xs p has)))
-      (λ p has. let less : y < p = All-contains (λ q. y < q) ys p (head_below y ys vp) has in in_tail x xs p (omega (arith, less, heads)) (back p (in_more y ys p has))) in
+    (λ p has. let less : x < p = All-contains (λ q. x < q) xs p (head_below x xs up) has in in_tail y ys p (omega (arith, less, heads)) (to p (in_more x xs p has)))
+    (λ p has. let less : y < p = All-contains (λ q. y < q) ys p (head_below y ys vp) has in in_tail x xs p (omega (arith, less, heads)) (back p (in_more y ys p has))) in
     cc
 
 -- there is one list of the numbers of which P holds
@@ -54,9 +54,9 @@ one_task old atoms actions new other a b =
     ∙ ap (λ xs. make other.atoms xs new.init new.goal) (a.new_actions ∙ sym b.new_actions)
     ∙ ap (λ xs. make other.atoms other.actions xs new.goal) (a.new_init ∙ sym b.new_init)
     ∙ ap (λ xs. make other.atoms other.actions other.init xs) (a.new_goal ∙ sym b.new_goal)
-    where
-  make : List (List ℕ) → List Action → List ℕ → List ℕ → TaskShape
-  make atoms actions init goal = record { atoms = atoms; actions = actions; init = init; goal = goal }
+  where
+    make : List (List ℕ) → List Action → List ℕ → List ℕ → TaskShape
+    make atoms actions init goal = record { atoms = atoms; actions = actions; init = init; goal = goal }
 
 done : Pruned → Result Pruned PruneError
 done p = Ok p

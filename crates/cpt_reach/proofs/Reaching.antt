@@ -1,12 +1,11 @@
-use Rattle.std.proofs.Common.{◌≡◌, ℕ, zero, suc, ◌+◌, ◌<◌, ◌≤◌, ◌⊎◌, inl, inr, Bool, true, false, not, ◌&&◌, ◌||◌, nat_eq, List, length, get_or, All, Contains, refl, sym, ap, ◌∙◌, subst, arith}
-use Rattle.std.proofs.lemmas.Bool.{eqb-true}
+use Rattle.std.proofs.Common.{◌≡◌, ℕ, zero, suc, ◌+◌, ◌<◌, ◌≤◌, ◌⊎◌, inl, inr, Bool, true, false, not, ◌&&◌, ◌||◌, nat_eq, List, get_or, All, Contains, refl, arith}
 use Rattle.std.proofs.lemmas.Bool.Decides.{nat_tests}
 use Rattle.std.proofs.lemmas.List.Folds.{Any-from_list_any}
 use Rattle.std.proofs.lemmas.List.Elements.{All-contains}
 use Rattle.cpt_task.specs.declared.plan.Occ.{Occ}
 use Rattle.cpt_task.specs.Shape.{TaskShape, InBounds}
-use Rattle.cpt_task.specs.Timeline.{action_of, end_of, is_in, idle, IsPlan, adds_at, deletes_at, holds_at, HoldsFrom, IsMet, IsValid, IsOccurrence}
-use Rattle.cpt_reach.specs.Reached.{IsClosed, IsReached, IsKeptAction, IsLeast, action_at}
+use Rattle.cpt_task.specs.Timeline.{action_of, end_of, is_in, idle, IsPlan, adds_at, deletes_at, holds_at, IsMet, IsValid, IsOccurrence}
+use Rattle.cpt_reach.specs.Reached.{IsClosed, IsLeast}
 use Rattle.cpt_reach.specs.Plans.{IsKeptPlan}
 use Rattle.cpt_reach.proofs.Numbering.{contains_from_in}
 
@@ -49,18 +48,20 @@ held t fine plan of_task met set closed (suc n) (suc time) p le h =
     elim (either (holds_at t plan time p) (deletes_at t plan (suc time) p) (adds_at t plan (suc time) p) h) [
       | inl before ↦ held t fine plan of_task met set closed n time p (omega arith) before
       | inr added ↦
-        let a = adder t plan (suc time) p added in
-        let o = a.0 in
-        let lt : IsOccurrence t o = All-contains (IsOccurrence t) plan o of_task a.1 in
-        let long : 0 < (action_of t o).dur = lasts t fine o lt in
-        let ends : o.start + (action_of t o).dur ≡ suc time = a.2 in
-        let needs : IsMet t plan o = All-contains (IsMet t plan) plan o met a.1 in
-        in_set t set closed o lt (λ k d low. held t fine plan of_task met set closed n o.start _ (omega (arith, long, ends, le)) (needs k d low o.start (omega arith) (omega (arith, long)))) p a.3
+          let a = adder t plan (suc time) p added in
+          let o = a.0 in
+          let lt : IsOccurrence t o = All-contains (IsOccurrence t) plan o of_task a.1 in
+          let long : 0 < (action_of t o).dur = lasts t fine o lt in
+          let ends : o.start + (action_of t o).dur ≡ suc time = a.2 in
+          let needs : IsMet t plan o = All-contains (IsMet t plan) plan o met a.1 in
+          in_set t set closed o lt (λ k d low. held t fine plan of_task met set closed n o.start _ (omega (arith, long, ends, le)) (needs k d low o.start (omega arith) (omega (arith, long)))) p a.3
     ]
 
 -- each action of a valid plan is kept
 pub valid_is_kept : (t : TaskShape) → InBounds t → (plan : List Occ) → IsValid t plan → IsKeptPlan t plan
 valid_is_kept t fine plan valid k d lt =
-    let o = get_or plan k d in
-    (valid.of_task k d lt, λ i c low set closed. held t fine plan valid.of_task valid.met set closed o.start o.start _ (omega arith)
-      (let long : 0 < (action_of t o).dur = lasts t fine o (valid.of_task k d lt) in valid.met k d lt i c low o.start (omega arith) (omega (arith, long))))
+    let o = get_or plan k d in (
+      valid.of_task k d lt,
+      λ i c low set closed. held t fine plan valid.of_task valid.met set closed o.start o.start _ (omega arith)
+          (let long : 0 < (action_of t o).dur = lasts t fine o (valid.of_task k d lt) in valid.met k d lt i c low o.start (omega arith) (omega (arith, long))),
+    )

@@ -1,13 +1,13 @@
-use Rattle.std.proofs.Common.{◌≡◌, ℕ, zero, suc, ◌+◌, ◌<◌, ◌≤◌, ◌↔◌, ◌⊎◌, inl, inr, true, Some, unwrap_or, List, length, get_or, map, All, Contains, refl, sym, ap, ◌∙◌, subst, arith}
+use Rattle.std.proofs.Common.{◌≡◌, ℕ, ◌+◌, ◌<◌, inl, inr, Some, unwrap_or, List, length, get_or, All, Contains, refl, sym, ap, ◌∙◌}
 use Rattle.std.specs.List.Sorted.{IsStrictlyIncreasing}
-use Rattle.std.proofs.lemmas.List.{get_or-map, length-map}
-use Rattle.std.proofs.lemmas.List.Elements.{All-contains, All-weaker}
+use Rattle.std.proofs.lemmas.List.{get_or-map}
+use Rattle.std.proofs.lemmas.List.Elements.{All-contains}
 use Rattle.cpt_task.specs.declared.task.Action.{Action}
 use Rattle.cpt_task.specs.declared.plan.Occ.{Occ}
 use Rattle.cpt_task.specs.Shape.{TaskShape}
 use Rattle.cpt_task.specs.Interference.{Shares, Disturbs, Interferes}
-use Rattle.cpt_task.specs.Timeline.{action_of, end_of, is_in, idle}
-use Rattle.cpt_reach.specs.Reached.{IsReached, IsKeptAtom, IsKeptAction, action_at}
+use Rattle.cpt_task.specs.Timeline.{action_of, end_of, idle}
+use Rattle.cpt_reach.specs.Reached.{IsKeptAtom, IsKeptAction, action_at}
 use Rattle.cpt_reach.specs.Kept.{IsListOf, new_number, renumbered, renumbered_action, IsKeptPart}
 use Rattle.cpt_reach.specs.Plans.{renumbered_occurrence}
 use Rattle.cpt_reach.proofs.Numbering.{new_number-at, new_number-found, at-new_number, is_in-renumbered, renumbered-below, contains_from_in, in_from_contains}

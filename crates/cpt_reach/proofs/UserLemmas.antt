@@ -1,4 +1,4 @@
-use Rattle.std.proofs.Common.{◌≡◌, ◌≢◌, ℕ, zero, suc, ◌+◌, ◌<◌, ◌≤◌, ◌⊎◌, inl, inr, List, [], ◌∷◌, ◌++◌, length, get_or, take, drop, set, take_all, All, Contains, refl, sym, ap, ◌∙◌, subst, arith}
+use Rattle.std.proofs.Common.{◌≡◌, ℕ, zero, suc, ◌+◌, ◌<◌, ◌≤◌, ◌⊎◌, inl, inr, List, [], ◌∷◌, ◌++◌, length, get_or, take, drop, set, All, Contains, refl, sym, ◌∙◌, subst, arith}
 use Rattle.std.proofs.Math.ListN.{length-set, get_or-eq_default}
 use Rattle.std.proofs.lemmas.List.{get_or-set_same, get_or-set_other}
 use Rattle.std.proofs.lemmas.List.Elements.{Contains-push, Contains-push_cases, Contains-append_left}
@@ -6,7 +6,7 @@ use Rattle.std.proofs.lemmas.Grind.{common_steps}
 use Rattle.cpt_task.specs.Shape.{TaskShape}
 use Rattle.cpt_reach.specs.Reached.{action_at}
 use Rattle.cpt_reach.specs.Marking.{row_at, AddsUses, IsUsersUpTo, IsUsers, IsNoUsers}
-use Rattle.cpt_reach.proofs.MarkLemmas.{same_or_not, contains_more, more_contains}
+use Rattle.cpt_reach.proofs.MarkLemmas.{same_or_not, contains_more}
 
 pub uses_none : (a : ℕ) (rows : List (List ℕ)) → AddsUses a [] rows rows
 uses_none a rows = record { size = refl; kept = λ p b h. h; added = λ p h. absurd (omega (arith, h.1)); only = λ p b h. inl h }
@@ -30,10 +30,13 @@ uses_one a rows p lt = record {
 } where
   more : List ℕ
   more = row_at rows p ++ a ∷ []
+
   new : List (List ℕ)
   new = set rows p (row_at rows p ++ a ∷ [])
+
   here : row_at (set rows p (row_at rows p ++ a ∷ [])) p ≡ row_at rows p ++ a ∷ []
   here = get_or-set_same rows p (row_at rows p ++ a ∷ []) [] lt
+
   single : (x q : ℕ) → Contains (x ∷ []) q → q ≡ x
   single x q (zero, low, e) = sym e
   single x q (suc k, low, e) = absurd (omega arith)
@@ -51,6 +54,7 @@ uses_more a xs i r0 r1 r2 lt within before e = subst (AddsUses a (take (i + 1) x
 }) where
   lit : 0 < 1
   lit = omega arith
+
   one : AddsUses a (get_or xs i 0 ∷ []) r1 (set r1 (get_or xs i 0) (row_at r1 (get_or xs i 0) ++ a ∷ []))
   one = uses_one a r1 (get_or xs i 0) within
 

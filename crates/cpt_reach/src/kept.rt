@@ -61,12 +61,7 @@ fn new_actions(
 }
 
 /// The task with these atoms and actions, which are the kept ones.
-pub fn kept_task(
-    alloc: Global,
-    task: &Task,
-    atoms: &[u32],
-    actions: &[u32],
-) -> Result<Task, Memory>
+pub fn kept_task(alloc: Global, task: &Task, atoms: &[u32], actions: &[u32]) -> Result<Task, Memory>
     requires bounds { InBounds task.now }
     requires kept_atoms { IsListOf (IsKeptAtom task.now) atoms.now }
     requires kept_actions { IsListOf (IsKeptAction task.now) actions.now }

@@ -11,3 +11,5 @@ mod users;
 pub use laws::{kept_part_keeps_plans, one_pruning, reached_is_least};
 pub use pruning::{PruneError, Pruned, prune};
 
+#[cfg(test)]
+mod tests;

@@ -77,8 +77,5 @@ fn places_of(alloc: Global, kept: &[u32], xs: &[u32]) -> Result<Vec<u32>, Memory
     requires short { length kept.now ≤ 2 ^ 31 }
     ensures { IfOk result (λ new. new.items ≡ renumbered kept.now xs.now) }
 {
-    Ok(xs
-        .iter()
-        .filter_map(|x| place_of(kept, *x))
-        .collect(alloc)?)
+    Ok(xs.iter().filter_map(|x| place_of(kept, *x)).collect(alloc)?)
 }

@@ -15,6 +15,7 @@ use cpt_task::{Limit, List, Memory, Task};
 use std::alloc::Global;
 
 const ATOM_LIMIT: usize = 2048;
+
 const ACTION_LIMIT: usize = 4096;
 
 /// The kept part of a task, and the old numbers of its atoms and of its actions, increasing.

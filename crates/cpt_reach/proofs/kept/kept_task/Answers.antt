@@ -1,4 +1,4 @@
-use Rattle.std.proofs.Common.{◌≡◌, ◌∙◌, ap}
+use Rattle.std.proofs.Common.{◌∙◌, ap}
 use Rattle.cpt_task.specs.Building.{made_of}
 use Rattle.cpt_reach.specs.Kept.{IsKeptPart, renumbered}
 use Rattle.cpt_reach.proofs.KeptLemmas.{atoms_below, kept_part, kept_in_bounds, is_built}
@@ -14,6 +14,6 @@ unwrap-requires c =
     let actions = c.args.actions.now in
     let new = made_of c.in_ok-names.names.items c.in_ok-new.new.items c.in_ok-init.init c.in_ok-goal.goal in
     let part : IsKeptPart old atoms actions new =
-      kept_part old atoms actions c.in_ok-names.names.items c.in_ok-new.new.items c.in_ok-init.init c.in_ok-goal.goal c.requires.kept_atoms c.requires.kept_actions
-        c.in_ok-names.ensures c.in_ok-new.ensures (c.in_ok-init.ensures ∙ ap (renumbered atoms) c.init.ensures.value) (c.in_ok-goal.ensures ∙ ap (renumbered atoms) c.goal.ensures.value) in
+    kept_part old atoms actions c.in_ok-names.names.items c.in_ok-new.new.items c.in_ok-init.init c.in_ok-goal.goal c.requires.kept_atoms c.requires.kept_actions
+    c.in_ok-names.ensures c.in_ok-new.ensures (c.in_ok-init.ensures ∙ ap (renumbered atoms) c.init.ensures.value) (c.in_ok-goal.ensures ∙ ap (renumbered atoms) c.goal.ensures.value) in
     is_built new c.build.result (kept_in_bounds old new atoms actions c.requires.bounds part c.requires.few_atoms c.requires.few_actions) c.build.ensures

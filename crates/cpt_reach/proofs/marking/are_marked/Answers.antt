@@ -1,4 +1,4 @@
-use Rattle.std.proofs.Common.{◌≡◌, true, slice_index_or}
+use Rattle.std.proofs.Common.{◌≡◌, true}
 use Rattle.std.proofs.lemmas.List.Elements.{All-more}
 use Rattle.cpt_task.proofs.Order.{all_of_taken}
 use Rattle.cpt_reach.specs.Marking.{is_marked}

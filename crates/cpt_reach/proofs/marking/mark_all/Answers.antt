@@ -1,4 +1,4 @@
-use Rattle.cpt_reach.proofs.MarkLemmas.{marks_more, marks_none, marks_all_of}
+use Rattle.cpt_reach.proofs.MarkLemmas.{marks_more}
 use Rattle.cpt_reach.proofs.marking.mark_all.Goals as goal
 
 pub loop-x-preserved : goal.loop-x-preserved

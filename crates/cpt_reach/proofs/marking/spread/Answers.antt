@@ -1,4 +1,4 @@
-use Rattle.std.proofs.Common.{◌≡◌, ℕ, ◌<◌, List, [], ◌∷◌, ◌++◌, length, Contains, refl, sym, ap, ◌∙◌, subst, arith}
+use Rattle.std.proofs.Common.{◌≡◌, ℕ, ◌<◌, List, [], ◌∷◌, length, Contains, refl, sym, ◌∙◌, subst, arith}
 use Rattle.cpt_reach.specs.Marking.{AllBelow, Settles, row_at, IsSettled}
 use Rattle.cpt_reach.specs.Reached.{action_at}
 use Rattle.cpt_reach.proofs.MarkLemmas.{popped_below, row_is, row_below, all_settled, closed_at_end}

@@ -16,7 +16,7 @@ are_marked-requires c =
     let within : a < length t.actions = omega (arith, c.loop-a-test.true, ap length c.actions-action-items.ensures.value) in
     let e : c.action-item.result ≡ action_at t a = action_is t c.actions-action-items.result.now a c.action-item.result within c.actions-action-items.ensures.value c.action-item.is in
     subst (λ (xs : List ℕ). AllBelow (length c.args.marks.now) xs) (sym (c.as_slice.ensures.items ∙ ap (λ (x : Action). x.pre) e))
-      (pre_below t (length c.args.marks.now) a c.actions-action-items.ensures.bounds within c.requires)
+    (pre_below t (length c.args.marks.now) a c.actions-action-items.ensures.bounds within c.requires)
 
 pub loop-a-preserved : goal.loop-a-preserved
 loop-a-preserved c =
@@ -30,9 +30,9 @@ loop-a-preserved c =
     let P : List ℕ → Type 0 = λ xs. IsListOf (λ b. (b < a + 1) × Q b) xs in
     elim c.if-are_marked.branch [
       | then-are_marked+in_ok-push w ↦
-        subst P (sym (ap (λ (v : Vec ℕ Global). v.items) w.xs-is ∙ w.in_ok-push.ensures.items))
+          subst P (sym (ap (λ (v : Vec ℕ Global). v.items) w.xs-is ∙ w.in_ok-push.ensures.items))
           (list_push Q c.loop-a.xs.items a c.loop-a.invariant (subst (λ (xs : List ℕ). AreMarked m xs) pre w.if-are_marked.ensures))
       | else-are_marked w ↦
-        subst P (sym (ap (λ (v : Vec ℕ Global). v.items) w.xs-is))
+          subst P (sym (ap (λ (v : Vec ℕ Global). v.items) w.xs-is))
           (list_skip Q c.loop-a.xs.items a c.loop-a.invariant (not_all_marked m (action_at t a).pre (subst (λ (xs : List ℕ). HasUnmarked m xs) pre w.if-are_marked.ensures)))
     ]

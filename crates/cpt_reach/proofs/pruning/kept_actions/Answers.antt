@@ -9,4 +9,4 @@ use Rattle.cpt_reach.proofs.pruning.kept_actions.Goals as goal
 pub returns : goal.returns
 returns c =
     IfOk-weaker c.ready_actions.result (λ (xs : Vec ℕ Global). IsListOf (IsReady c.args.task.now c.args.marks.now) xs.items) (λ (xs : Vec ℕ Global). IsListOf (IsKeptAction c.args.task.now) xs.items)
-      (λ xs list. list_of_actions c.args.task.now c.args.marks.now xs.items c.requires.reached list) c.ready_actions.ensures
+    (λ xs list. list_of_actions c.args.task.now c.args.marks.now xs.items c.requires.reached list) c.ready_actions.ensures

@@ -13,7 +13,7 @@ add_uses-requires c =
     let within : a < length t.actions = omega (arith, c.loop-a-test.true, ap length c.actions-action-items.ensures.value) in
     let e : c.action-item.result ≡ action_at t a = action_is t c.actions-action-items.result.now a c.action-item.result within c.actions-action-items.ensures.value c.action-item.is in
     subst (λ (xs : List ℕ). AllBelow (length c.deref_mut.result.now) xs) (sym (c.as_slice.ensures.items ∙ ap (λ (x : Action). x.pre) e))
-      (pre_below t (length c.deref_mut.result.now) a c.atoms.ensures.bounds within (ap length c.deref_mut.ensures.value ∙ c.loop-a.invariant.size))
+    (pre_below t (length c.deref_mut.result.now) a c.atoms.ensures.bounds within (ap length c.deref_mut.ensures.value ∙ c.loop-a.invariant.size))
 
 pub loop-a-preserved : goal.loop-a-preserved
 loop-a-preserved c =
@@ -25,7 +25,7 @@ loop-a-preserved c =
     let uses : AddsUses a c.as_slice.result.now c.loop-a.rows.items new = subst (λ (rows : List (List ℕ)). AddsUses a c.as_slice.result.now rows new) c.deref_mut.ensures.value c.in_ok-add_uses.ensures in
     let all : AddsUses a (action_at t a).pre c.loop-a.rows.items new = subst (λ (xs : List ℕ). AddsUses a xs c.loop-a.rows.items new) (c.as_slice.ensures.items ∙ ap (λ (x : Action). x.pre) e) uses in
     subst (IsUsersUpTo t (a + 1)) (sym (written_back c.loop-a.rows.items new c.loop-a.rows.len c.loop-a.rows.ok.0 uses.size))
-      (users_more t a c.loop-a.rows.items new c.loop-a.invariant all)
+    (users_more t a c.loop-a.rows.items new c.loop-a.invariant all)
 
 pub returns : goal.returns
 returns c =
