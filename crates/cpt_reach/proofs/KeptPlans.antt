@@ -9,7 +9,7 @@ use Rattle.cpt_task.specs.Timeline.{action_of, IsPlan, IsOccurrence, makespan, H
 use Rattle.cpt_task.specs.Optimal.{IsOptimal}
 use Rattle.cpt_reach.specs.Reached.{IsKeptAction, action_at}
 use Rattle.cpt_reach.specs.Kept.{new_number, renumbered, renumbered_action, IsKeptPart}
-use Rattle.cpt_reach.specs.Plans.{IsKeptPlan, renumbered_occurrence, renumbered_plan, KeptPartKeepsPlans}
+use Rattle.cpt_reach.specs.Plans.{IsKeptPlan, renumbered_occurrence, renumbered_plan, older_occurrence, older_plan, KeptPartKeepsPlans}
 use Rattle.cpt_reach.proofs.Numbering.{renumbered-all, all-renumbered, new_number-at}
 use Rattle.cpt_reach.proofs.Reaching.{valid_is_kept}
 use Rattle.cpt_reach.proofs.Renaming.{kept_is_covered, interferes_new, interferes_old, place_of_action, action_of-renumbered, end_of-renumbered}
@@ -137,11 +137,7 @@ valid_old old new atoms actions part plan kept valid =
       goal = goal_old old new atoms actions part plan kept valid.goal;
     }
 
-older_occurrence : List ℕ → Occ → Occ
-older_occurrence actions o = record { act = get_or actions o.act 0; start = o.start }
-
 back_and_forth : (old new : TaskShape) (atoms actions : List ℕ) → IsKeptPart old atoms actions new → (plan : List Occ) → All (λ o. o.act < length actions) plan → renumbered_plan actions (map (older_occurrence actions) plan) ≡ plan
-unfolding older_occurrence
 back_and_forth old new atoms actions part [] all = refl
 back_and_forth old new atoms actions part (o ∷ os) all =
     let e : unwrap_or (new_number actions (get_or actions o.act 0)) 0 ≡ o.act =
@@ -151,12 +147,10 @@ back_and_forth old new atoms actions part (o ∷ os) all =
     ∙ ap (λ qs. o ∷ qs) (back_and_forth old new atoms actions part os (All-tail (λ q. q.act < length actions) o os all))
 
 -- each plan of the kept part is the renumbering of one of kept actions
-pub onto : (old new : TaskShape) (atoms actions : List ℕ) → IsKeptPart old atoms actions new → (plan : List Occ) → IsPlan new plan → (older : List Occ) × IsKeptPlan old older × (renumbered_plan actions older ≡ plan)
-unfolding older_occurrence
+pub onto : (old new : TaskShape) (atoms actions : List ℕ) → IsKeptPart old atoms actions new → (plan : List Occ) → IsPlan new plan → IsKeptPlan old (older_plan actions plan) × (renumbered_plan actions (older_plan actions plan) ≡ plan)
 onto old new atoms actions part plan of_new =
     let size : length new.actions ≡ length actions = ap length part.new_actions ∙ length-map actions (λ a. renumbered_action atoms (action_at old a)) in
     let small : All (λ o. o.act < length actions) plan = All-weaker (IsOccurrence new) (λ o. o.act < length actions) (λ o lt. omega (arith, lt, size)) plan of_new in (
-      map (older_occurrence actions) plan,
       All-map (λ o. IsKeptAction old o.act) (older_occurrence actions) plan (λ k d lt. part.kept_actions.sound _ 0 (small k d lt)),
       back_and_forth old new atoms actions part plan small,
     )
@@ -164,9 +158,10 @@ onto old new atoms actions part plan of_new =
 -- a valid plan of the kept part is the renumbering of a valid plan of the same makespan
 older_valid : (old new : TaskShape) (atoms actions : List ℕ) → IsKeptPart old atoms actions new → (plan : List Occ) → IsValid new plan → (older : List Occ) × IsValid old older × (makespan new plan ≡ makespan old older)
 older_valid old new atoms actions part plan valid =
+    let older = older_plan actions plan in
     let back = onto old new atoms actions part plan valid.of_task in
-    let valid' : IsValid new (renumbered_plan actions back.0) = subst (IsValid new) (sym back.2) valid in
-    (back.0, valid_old old new atoms actions part back.0 back.1 valid', ap (makespan new) (sym back.2) ∙ makespan-renumbered old new atoms actions part back.0 back.1)
+    let valid' : IsValid new (renumbered_plan actions older) = subst (IsValid new) (sym back.1) valid in
+    (older, valid_old old new atoms actions part older back.0 valid', ap (makespan new) (sym back.1) ∙ makespan-renumbered old new atoms actions part older back.0)
 
 -- a valid plan's renumbering is valid, with the same makespan
 newer_valid : (old new : TaskShape) (atoms actions : List ℕ) → InBounds old → IsKeptPart old atoms actions new → (plan : List Occ) → IsValid old plan → (newer : List Occ) × IsValid new newer × (makespan new newer ≡ makespan old plan)

@@ -9,7 +9,7 @@ use Rattle.cpt_reach.specs.declared.pruning.PruneError.TheVariants.{Limit, Memor
 use Rattle.cpt_reach.specs.declared.pruning.Pruned.{Pruned}
 use Rattle.cpt_reach.specs.Reached.{IsKeptAtom, IsKeptAction}
 use Rattle.cpt_reach.specs.Kept.{IsListOf, IsKeptPart}
-use Rattle.cpt_reach.specs.Pruning.{HasMoreThan, HasAtMost, Prunes, OnePruning}
+use Rattle.cpt_reach.specs.Pruning.{HasMoreThan, HasAtMost, Prunes, OnePruning, LimitsAreExact}
 use Rattle.cpt_reach.proofs.Numbering.{head_below, tail_increasing}
 
 in_tail : (y : ℕ) (ys : List ℕ) (p : ℕ) → y < p → Contains (y ∷ ys) p → Contains ys p
@@ -119,3 +119,10 @@ same_answer t (Err Memory) s a b = absurd a
 -- two answers of which neither is want of memory are one
 pub one_pruning : OnePruning
 one_pruning t r s r_known s_known a b = same_answer t r s (which t r r_known a) (which t s s_known b)
+
+-- each limit is answered exactly where it is passed
+pub limits_are_exact : LimitsAreExact
+limits_are_exact t r known answer = (
+  (λ e. subst (Prunes t) e answer, λ more. one_pruning t r (Err (Limit Atoms)) known (λ e. cc) answer more),
+  (λ e. subst (Prunes t) e answer, λ more. one_pruning t r (Err (Limit Actions)) known (λ e. cc) answer more),
+)

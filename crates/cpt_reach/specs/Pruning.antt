@@ -1,4 +1,4 @@
-use Rattle.std.specs.Prelude.{◌≡◌, ℕ, ◌<◌, ◌≤◌, ◌≢◌, List, length, Result, Ok, Err}
+use Rattle.std.specs.Prelude.{◌≡◌, ℕ, ◌<◌, ◌≤◌, ◌≢◌, ◌↔◌, List, length, Result, Ok, Err}
 use Rattle.cpt_task.specs.declared.memory.Limit.TheVariants.{Atoms, Actions}
 use Rattle.cpt_task.specs.Shape.{TaskShape}
 use Rattle.cpt_reach.specs.declared.pruning.PruneError.{PruneError}
@@ -26,6 +26,11 @@ Prunes t (Err Memory) = Unit
 -- two answers of which neither is want of memory are one
 abbrev pub OnePruning : Type 0
 OnePruning = (t : TaskShape) (r s : Result Pruned PruneError) → r ≢ Err Memory → s ≢ Err Memory → Prunes t r → Prunes t s → r ≡ s
+
+-- unless memory is wanting, a limit is answered exactly where the kept part passes it: that of the atoms, else that of the actions
+abbrev pub LimitsAreExact : Type 0
+LimitsAreExact = (t : TaskShape) (r : Result Pruned PruneError) → r ≢ Err Memory → Prunes t r
+    → ((r ≡ Err (Limit Atoms)) ↔ HasMoreThan 2048 (IsKeptAtom t)) × ((r ≡ Err (Limit Actions)) ↔ (HasAtMost 2048 (IsKeptAtom t) × HasMoreThan 4096 (IsKeptAction t)))
 
 -- the lists of the kept atoms and of the kept actions
 pub record KeptNumbers (t : TaskShape) (atoms actions : List ℕ) : Type 0 where

@@ -2,7 +2,7 @@
 
 ghost use Rattle.cpt_reach.specs.Reached.{ReachedIsLeast};
 ghost use Rattle.cpt_reach.specs.Plans.{KeptPartKeepsPlans};
-ghost use Rattle.cpt_reach.specs.Pruning.{OnePruning};
+ghost use Rattle.cpt_reach.specs.Pruning.{LimitsAreExact, OnePruning};
 
 /// The reached atoms are the least set that holds the initial atoms and is closed under the actions.
 pub fn reached_is_least()
@@ -17,4 +17,9 @@ pub fn kept_part_keeps_plans()
 /// Two prunings of a task answer the same, unless memory is wanting.
 pub fn one_pruning()
     ensures { OnePruning }
+{}
+
+/// Each limit is answered exactly where the kept part passes it, unless memory is wanting.
+pub fn limits_are_exact()
+    ensures { LimitsAreExact }
 {}

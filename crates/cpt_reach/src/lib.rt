@@ -8,7 +8,7 @@ mod numbers;
 mod pruning;
 mod users;
 
-pub use laws::{kept_part_keeps_plans, one_pruning, reached_is_least};
+pub use laws::{kept_part_keeps_plans, limits_are_exact, one_pruning, reached_is_least};
 pub use pruning::{PruneError, Pruned, prune};
 
 #[cfg(test)]
