@@ -1,13 +1,12 @@
 -- laws of the greatest over a list
-use Rattle.std.proofs.Common.{◌≡◌, ℕ, zero, suc, ◌+◌, ◌<◌, ◌≤◌, ◌⊎◌, inl, inr, List, [], ◌∷◌, ◌++◌, length, get_or, drop, All, Contains, refl, sym, ap, subst, ◌∙◌, arith, add-one}
+use Rattle.std.proofs.Common.{◌≡◌, ℕ, zero, suc, ◌+◌, ◌<◌, ◌≤◌, List, [], ◌∷◌, ◌++◌, length, get_or, drop, All, Contains, sym, ap, ◌∙◌, arith, add-one}
 use Rattle.std.proofs.Math.Seq.{drop-cons}
 use Rattle.std.proofs.lemmas.List.{drop_all}
-use Rattle.std.proofs.lemmas.List.Elements.{All-contains, All-head, All-tail, Contains-append_left, Contains-append_right, Contains-append_cases}
+use Rattle.std.proofs.lemmas.List.Elements.{All-contains, All-head, All-tail}
 use Rattle.cpt_task.specs.declared.span.Span.{Span}
-use Rattle.cpt_task.specs.declared.span.Span.TheVariants.{At, Never}
 use Rattle.cpt_tables.specs.Spans.{◌≤ˢ◌, span_max, IsBelow}
 use Rattle.cpt_tables.specs.Shapes.{most_over}
-use Rattle.cpt_tables.proofs.SpanLemmas.{le_refl, le_trans, max_left, max_right, max_le, max_assoc, zero_max, max_zero, zero_le, below_max}
+use Rattle.cpt_tables.proofs.SpanLemmas.{le_trans, max_left, max_right, max_le, max_assoc, zero_max, max_zero, zero_le, below_max}
 
 -- a loop over the list: the greatest so far and that of the rest
 pub over_more : (f : ℕ → Span) (xs : List ℕ) (i : ℕ) (m r : Span) → i < length xs → span_max m (most_over f (drop i xs)) ≡ r → span_max (span_max m (f (get_or xs i 0))) (most_over f (drop (i + 1) xs)) ≡ r

@@ -1,12 +1,12 @@
 -- where values stand
-use Rattle.std.proofs.Common.{◌≡◌, ℕ, zero, suc, ◌+◌, ◌-◌, ◌*◌, ◌/◌, ◌<◌, ◌≤◌, ◌⊎◌, max, min, inl, inr, List, length, get_or, set, replicate, refl, sym, ap, subst, ◌∙◌, arith}
+use Rattle.std.proofs.Common.{◌≡◌, ℕ, zero, suc, ◌+◌, ◌*◌, ◌/◌, ◌<◌, ◌⊎◌, max, min, inl, inr, List, length, get_or, replicate, refl, sym, ap, subst, ◌∙◌, arith}
 use Rattle.std.proofs.Math.Nat.{add-mul-div_right, mul_comm, suc-mul, mul-add}
 use Rattle.std.proofs.lemmas.Nat.{same_from_place, mul-add-lt}
 use Rattle.std.proofs.lemmas.Bool.{cases_order}
 use Rattle.std.proofs.lemmas.List.{get_or-replicate, get_or-set_other, get_or-set_same}
 use Rattle.cpt_task.specs.declared.span.Span.{Span}
-use Rattle.cpt_task.specs.declared.span.Span.TheVariants.{At, Never}
-use Rattle.cpt_tables.specs.Shapes.{PairShape, DistShape, row_start, pair_place, pair_at, dist_at, with_pair, with_dist, pairs_of, dists_of, IsSamePair, SetsPair, SetsDist, IsFilledPairs, IsFilledDists}
+use Rattle.cpt_task.specs.declared.span.Span.TheVariants.{Never}
+use Rattle.cpt_tables.specs.Shapes.{PairShape, DistShape, row_start, pair_place, pair_at, with_pair, with_dist, pairs_of, dists_of, IsSamePair, SetsPair, SetsDist, IsFilledPairs, IsFilledDists}
 
 next_product : (q : ℕ) → suc q * (suc q + 1) ≡ q * (q + 1) + suc q * 2
 next_product q =

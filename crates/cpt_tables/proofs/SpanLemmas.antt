@@ -1,5 +1,5 @@
 -- laws of spans
-use Rattle.std.proofs.Common.{◌≡◌, ℕ, ◌+◌, ◌<◌, ◌≤◌, ◌⊎◌, max, min, inl, inr, refl, ap, arith}
+use Rattle.std.proofs.Common.{◌≡◌, ℕ, ◌+◌, ◌≤◌, ◌⊎◌, max, min, inl, inr, refl, ap, arith}
 use Rattle.cpt_task.specs.declared.span.Span.{Span}
 use Rattle.cpt_task.specs.declared.span.Span.TheVariants.{At, Never}
 use Rattle.cpt_tables.specs.Spans.{◌≤ˢ◌, ◌<ˢ◌, ◌+ˢ◌, span_max, span_min, IsFinite, IsBelow}
@@ -70,6 +70,12 @@ max_assoc (At a) (At b) (At c) = let e : max (max a b) c ≡ max a (max b c) = o
 max_assoc (At a) (At b) Never = refl
 max_assoc (At a) Never c = refl
 max_assoc Never b c = refl
+
+pub max_comm : (a b : Span) → span_max a b ≡ span_max b a
+max_comm (At a) (At b) = let e : max a b ≡ max b a = omega arith in ap At e
+max_comm (At a) Never = refl
+max_comm Never (At b) = refl
+max_comm Never Never = refl
 
 pub zero_max : (a : Span) → span_max (At 0) a ≡ a
 zero_max (At a) = let e : max 0 a ≡ a = omega arith in ap At e

@@ -38,7 +38,8 @@ IsLimitByOne t h p q v = (c : Action) × Contains t.actions c × Contains c.add 
 abbrev pub IsLimitBeside : TaskShape → PairShape → ℕ → ℕ → Span → Type 0
 IsLimitBeside t h p q v = (c : Action) × Contains t.actions c × Contains c.add p × Leaves c q × (v ≡ limit_beside h c q)
 
--- of two actions that do not interfere, the one adds p and the other adds q
+-- of two actions that do not interfere, the one adds p and the other adds q (where the two are one action, this is
+-- the right side that it gives what it adds)
 abbrev pub IsLimitByTwo : TaskShape → PairShape → ℕ → ℕ → Span → Type 0
 IsLimitByTwo t h p q v =
     (c : Action) × (d : Action) × Contains t.actions c × Contains t.actions d × (Interferes c d → ⊥) × Contains c.add p × Contains d.add q × (v ≡ limit_by_two h c d)
@@ -59,14 +60,25 @@ IsAdmissiblePairs t h = (p q : ℕ) → p < length t.atoms → q < length t.atom
 abbrev pub nth_action : TaskShape → ℕ → Action
 nth_action t a = slice_index_or t.actions a idle
 
--- the distance of the action to the atom is to be 0: it adds the atom, or it does not delete it and the atom can
--- hold together with each atom that it adds
-abbrev pub IsAtOnce : PairShape → Action → ℕ → Type 0
-IsAtOnce h a p = Contains a.add p ⊎ ((Contains a.dele p → ⊥) × ((r : ℕ) → Contains a.add r → IsFinite (pair_at h p r)))
+-- the atom can hold together with each of the list
+abbrev pub CanHoldWith : PairShape → ℕ → List ℕ → Type 0
+CanHoldWith h p xs = (r : ℕ) → Contains xs r → IsFinite (pair_at h p r)
 
--- an action adds the atom, and it can begin once the atoms that it needs hold after action a
+-- the action does not delete the atom, and the atom can hold together with each atom that it adds
+abbrev pub Stays : PairShape → Action → ℕ → Type 0
+Stays h a p = (Contains a.dele p → ⊥) × CanHoldWith h p a.add
+
+-- the distance of the action to the atom is to be 0: the action adds the atom, or the atom stays
+abbrev pub IsAtOnce : PairShape → Action → ℕ → Type 0
+IsAtOnce h a p = Contains a.add p ⊎ Stays h a p
+
+-- how long after action a action c can end at the earliest: once the atoms that it needs hold, it lasts
+abbrev pub limit_after : DistShape → ℕ → Action → Span
+limit_after d a c = most_dist d a c.pre +ˢ At c.dur
+
+-- an action adds the atom
 abbrev pub IsLimitAfter : TaskShape → DistShape → ℕ → ℕ → Span → Type 0
-IsLimitAfter t d a p v = (c : Action) × Contains t.actions c × Contains c.add p × (v ≡ most_dist d a c.pre +ˢ At c.dur)
+IsLimitAfter t d a p v = (c : Action) × Contains t.actions c × Contains c.add p × (v ≡ limit_after d a c)
 
 -- v is a right side that the cases give action a and atom p
 pub data IsDistLimit (t : TaskShape) (h : PairShape) (d : DistShape) (a p : ℕ) (v : Span) : Type 0 where

@@ -48,6 +48,14 @@ with_pair h p q v = record { atoms = h.atoms; values = slice_set h.values (pair_
 abbrev pub with_dist : DistShape → ℕ → ℕ → Span → DistShape
 with_dist d a p v = record { actions = d.actions; atoms = d.atoms; values = slice_set d.values (a * d.atoms + p) v }
 
+-- the table has a value for each pair
+abbrev pub IsWholePairs : PairShape → Type 0
+IsWholePairs h = length h.values ≡ row_start h.atoms
+
+-- the table has a value for each action and atom
+abbrev pub IsWholeDists : DistShape → Type 0
+IsWholeDists d = length d.values ≡ d.actions * d.atoms
+
 -- one value everywhere
 abbrev pub IsFilledPairs : PairShape → Span → Type 0
 IsFilledPairs h v = (p q : ℕ) → p < h.atoms → q < h.atoms → pair_at h p q ≡ v
@@ -74,16 +82,24 @@ pub record SetsDist (old new : DistShape) (a p : ℕ) (v : Span) : Type 0 where
   pub here : dist_at new a p ≡ v
   pub others : (b r : ℕ) → b < old.actions → r < old.atoms → ((b ≡ a) × (r ≡ p) → ⊥) → dist_at new b r ≡ dist_at old b r
 
+-- a pair table whose finite values are below 10^15
+abbrev pub IsSmallPairs : PairShape → Type 0
+IsSmallPairs h = (p q : ℕ) → p < h.atoms → q < h.atoms → IsBelow 1000000000000000 (pair_at h p q)
+
+-- a distance table whose finite values are below 10^15
+abbrev pub IsSmallDists : DistShape → Type 0
+IsSmallDists d = (a p : ℕ) → a < d.actions → p < d.atoms → IsBelow 1000000000000000 (dist_at d a p)
+
 -- a pair table of the task's size, with finite values below 10^15
 pub record FitsPairs (t : TaskShape) (h : PairShape) : Type 0 where
   pub size : h.atoms ≡ length t.atoms
-  pub small : (p q : ℕ) → p < h.atoms → q < h.atoms → IsBelow 1000000000000000 (pair_at h p q)
+  pub small : IsSmallPairs h
 
 -- a distance table of the task's sizes, with finite values below 10^15
 pub record FitsDists (t : TaskShape) (d : DistShape) : Type 0 where
   pub actions : d.actions ≡ length t.actions
   pub atoms : d.atoms ≡ length t.atoms
-  pub small : (a p : ℕ) → a < d.actions → p < d.atoms → IsBelow 1000000000000000 (dist_at d a p)
+  pub small : IsSmallDists d
 
 -- the greatest f over a list, and 0 for an empty one
 abbrev pub most_over : (ℕ → Span) → List ℕ → Span

@@ -1,4 +1,4 @@
-use Rattle.std.proofs.Common.{◌<◌, ◌≡◌, ap, arith}
+use Rattle.std.proofs.Common.{◌≡◌, ap, arith}
 use Rattle.cpt_tables.specs.Shapes.{DistShape}
 use Rattle.cpt_tables.proofs.PlaceLemmas.{sets_dist}
 use Rattle.cpt_tables.proofs.dist_table.DistTable.set.Goals as goal

@@ -1,4 +1,4 @@
-use Rattle.std.proofs.Common.{◌<◌, ◌≡◌, ap, arith}
+use Rattle.std.proofs.Common.{◌≡◌, ap, arith}
 use Rattle.cpt_tables.specs.Shapes.{PairShape}
 use Rattle.cpt_tables.proofs.PlaceLemmas.{sets_pair}
 use Rattle.cpt_tables.proofs.pair_table.PairTable.set.Goals as goal

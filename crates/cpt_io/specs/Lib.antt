@@ -1,0 +1,5 @@
+pub mod Entries
+pub mod InMemory
+pub mod Meaning
+pub mod Reading
+pub mod SinkInMemory

@@ -1,0 +1,12 @@
+pub mod Comments
+pub mod Context
+pub mod Depth
+pub mod FlatLemmas
+pub mod Lower
+pub mod OneFault
+pub mod OneReading
+pub mod PrintingLemmas
+pub mod Refusing
+pub mod Spelling
+pub mod Walking
+pub mod Words

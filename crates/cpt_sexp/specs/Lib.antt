@@ -1,0 +1,9 @@
+pub mod Bytes
+pub mod Coding
+pub mod Faults
+pub mod Flat
+pub mod Grammar
+pub mod Parsing
+pub mod Printing
+pub mod Progress
+pub mod Trees
