@@ -4,40 +4,14 @@ ghost use Rattle.std.specs.Prelude.{◌≡◌, ◌<◌, ◌≤◌, ◌+◌, ◌*
 ghost use Rattle.cpt_task.specs.Shape.{HasAtomsBelow, IsDuration};
 ghost use Rattle.cpt_task.specs.declared.span.Span.{Span};
 ghost use Rattle.cpt_tables.specs.Spans.{◌+ˢ◌, IsBelow};
-ghost use Rattle.cpt_tables.specs.Shapes.{most_with, most_across, set_span_of};
+ghost use Rattle.cpt_tables.specs.Shapes.{set_span_of};
 ghost use Rattle.cpt_tables.specs.Admissible.{limit_by_one, limit_beside, limit_by_two};
 ghost use Rattle.cpt_h2.specs.Moving.{IsNextTo, reached};
 ghost use Rattle.cpt_h2.specs.Board.{IsGood, IsWithin};
 
 use crate::board::Board;
-use cpt_tables::{PairTable, add_spans, greater_span, set_span};
+use cpt_tables::{add_spans, greater_span, set_span, span_across, span_with};
 use cpt_task::{Action, Span};
-
-/// The greatest value of the atom with one of the list, and 0 for none.
-fn span_with(pairs: &PairTable, p: u32, atoms: &[u32]) -> Span
-    requires atom { p < pairs.now.atoms }
-    requires atoms { All (λ q. q < pairs.now.atoms) atoms.now }
-    ensures { result ≡ most_with pairs.now atoms.now p }
-{
-    let mut most = Span::At(0);
-    for q in atoms {
-        most = greater_span(most, pairs.get(p, *q));
-    }
-    most
-}
-
-/// The greatest value of an atom of the first list with one of the second, and 0 for none.
-fn span_across(pairs: &PairTable, first: &[u32], second: &[u32]) -> Span
-    requires first { All (λ p. p < pairs.now.atoms) first.now }
-    requires second { All (λ p. p < pairs.now.atoms) second.now }
-    ensures { result ≡ most_across pairs.now first.now second.now }
-{
-    let mut most = Span::At(0);
-    for p in first {
-        most = greater_span(most, span_with(pairs, *p, second));
-    }
-    most
-}
 
 /// When all of the atoms can hold together at the earliest.
 pub fn span_of(board: &Board, atoms: &[u32]) -> Span
