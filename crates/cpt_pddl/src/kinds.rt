@@ -3,7 +3,8 @@
 ghost use Rattle.std.specs.Prelude.{◌≡◌, slice_index};
 ghost use Rattle.cpt_pddl.specs.Kinds.{is_below};
 
-fn parent_of(parents: &[u32], kind: u32) -> u32
+/// The type at the number, and type 0 past the end.
+pub fn kind_at(parents: &[u32], kind: u32) -> u32
     ensures { result ≡ slice_index parents.now kind }
 {
     match parents.get(kind as usize) {
@@ -26,7 +27,7 @@ pub fn is_below(parents: &[u32], kind: u32, wanted: u32) -> bool
         if here == 0 {
             return false;
         }
-        here = parent_of(parents, here);
+        here = kind_at(parents, here);
     }
     here == wanted
 }

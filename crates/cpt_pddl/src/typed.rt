@@ -38,7 +38,7 @@ pub struct Reading {
 }
 
 /// Why a group may not stand in the place of a type.
-fn type_group(at: u32, inside: Cursor<'_>) -> Fault
+pub fn type_group(at: u32, inside: Cursor<'_>) -> Fault
     ensures { result ≡ type_group at (left inside.entry) }
 {
     match inside.next() {
