@@ -1,3 +1,4 @@
 pub mod Conditions
+pub mod Effects
 pub mod Shapes
 pub mod Terms

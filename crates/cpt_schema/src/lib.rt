@@ -2,7 +2,9 @@
 #![tactic(auto)]
 
 mod conditions;
+mod effects;
 mod terms;
 
 pub use conditions::{Conditions, Test};
+pub use effects::{Effect, Effects, Tag};
 pub use terms::{Lit, Term};
