@@ -9,8 +9,8 @@ ghost use Rattle.cpt_pddl.specs.Names.{place_in};
 ghost use Rattle.cpt_declared.specs.KindRuns.{run_of};
 ghost use Rattle.cpt_declared.specs.Kinds.{adopted, below_parent, dashed, entered_as, finished, has, is_entered, is_rooted, kinds_in, kinds_rest, misplaced, object_alone, parent_as, start, taken};
 
-use cpt_pddl::{Cursor, Fault, Names, Next, is_below, is_name, is_word, type_group};
 use crate::kind_run::Reading;
+use cpt_pddl::{Cursor, Fault, Names, Next, is_below, is_name, is_word, type_group};
 use cpt_task::List;
 use std::alloc::Global;
 
@@ -114,7 +114,11 @@ impl Reading {
     fn adopt(&mut self, parent: u32)
         ensures { run_of self.new ≡ record (run_of self.old) { parents = below_parent parent (drop self.old.parented self.old.entered.items) self.old.parents.items; parented = length self.old.entered.items; dash = false } }
     {
-        put_below(parent, &self.entered[self.parented..], self.parents.as_mut_slice());
+        put_below(
+            parent,
+            &self.entered[self.parented..],
+            self.parents.as_mut_slice(),
+        );
         self.parented = self.entered.len();
         self.dash = false;
     }

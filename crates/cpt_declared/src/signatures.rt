@@ -106,7 +106,15 @@ impl Signatures {
     }
 
     #[tactic(auto, unfolding(crate::specs::Signatures::named_signature))]
-    fn read_named(&mut self, alloc: Global, sort: Sort, types: &Names, at: u32, bytes: &[u8], rest: Cursor<'_>) -> Result<(), Fault>
+    fn read_named(
+        &mut self,
+        alloc: Global,
+        sort: Sort,
+        types: &Names,
+        at: u32,
+        bytes: &[u8],
+        rest: Cursor<'_>,
+    ) -> Result<(), Fault>
         ensures { Gives (λ _. self.new) result (named_signature sort types.now self.old at bytes.now (left rest.entry)) }
     {
         new_name(sort, &self.names, at, bytes)?;
@@ -117,7 +125,13 @@ impl Signatures {
     }
 
     /// Reads what is in the group of a predicate or function.
-    fn read_signature(&mut self, alloc: Global, sort: Sort, types: &Names, inside: Cursor<'_>) -> Result<(), Fault>
+    fn read_signature(
+        &mut self,
+        alloc: Global,
+        sort: Sort,
+        types: &Names,
+        inside: Cursor<'_>,
+    ) -> Result<(), Fault>
         ensures { Gives (λ _. self.new) result (signature sort types.now self.old (left inside.entry)) }
     {
         match inside.next() {
@@ -127,7 +141,14 @@ impl Signatures {
         }
     }
 
-    fn read_function(&mut self, alloc: Global, last: Last, types: &Names, at: u32, inside: Cursor<'_>) -> Result<(), Fault>
+    fn read_function(
+        &mut self,
+        alloc: Global,
+        last: Last,
+        types: &Names,
+        at: u32,
+        inside: Cursor<'_>,
+    ) -> Result<(), Fault>
         ensures { Gives (λ _. self.new) result (function_at last types.now self.old at (left inside.entry)) }
     {
         match last {
@@ -139,7 +160,12 @@ impl Signatures {
 }
 
 /// The predicates of a section, after those that are known.
-pub fn predicates_in(alloc: Global, types: &Names, known: Signatures, place: Cursor<'_>) -> Result<Signatures, Fault>
+pub fn predicates_in(
+    alloc: Global,
+    types: &Names,
+    known: Signatures,
+    place: Cursor<'_>,
+) -> Result<Signatures, Fault>
     ensures { Gives (λ sigs. sigs) result (predicates_in types.now known (left place.entry)) }
 {
     let mut sigs = known;
@@ -190,7 +216,12 @@ fn functions_end(last: Last, sigs: Signatures, close: u32) -> Result<Signatures,
 
 /// The functions of a section, after those that are known.
 #[tactic(auto, unfolding(crate::specs::Signatures::functions_in))]
-pub fn functions_in(alloc: Global, types: &Names, known: Signatures, place: Cursor<'_>) -> Result<Signatures, Fault>
+pub fn functions_in(
+    alloc: Global,
+    types: &Names,
+    known: Signatures,
+    place: Cursor<'_>,
+) -> Result<Signatures, Fault>
     ensures { Gives (λ sigs. sigs) result (functions_in types.now known (left place.entry)) }
 {
     let mut sigs = known;

@@ -68,7 +68,7 @@ applied declared params sigs atom at bytes rest = do
 unfoldable pub atom_in : Declared → Typed → Bool → ℕ → ℕ → List ℕ → Items → Result Lit Fault
 atom_in declared params full atom at bytes rest =
     if is_name bytes then
-      if full then Err (Limit limits.LongList atom) else applied declared params declared.predicates atom at bytes rest
+    if full then Err (Limit limits.LongList atom) else applied declared params declared.predicates atom at bytes rest
     else Err (Shape at)
 
 -- two terms are one

@@ -9,7 +9,9 @@ ghost use Rattle.cpt_schema.specs.Shapes.{conds_of};
 
 use crate::terms::{Lit, Term, atom_in, term_at};
 use cpt_declared::Declared;
-use cpt_pddl::{Cursor, Fault, Feature, Head, Next, Typed, after_word, group_at, head_of, is_word, nothing};
+use cpt_pddl::{
+    Cursor, Fault, Feature, Head, Next, Typed, after_word, group_at, head_of, is_word, nothing,
+};
 use std::alloc::Global;
 
 /// A test of two terms: they are to be equal, or to be different.
@@ -28,7 +30,11 @@ pub struct Conditions {
     pub tests: Vec<Test>,
 }
 
-fn term_next<'a>(declared: &Declared, params: &Typed, place: Cursor<'a>) -> Result<(Term, Cursor<'a>), Fault>
+fn term_next<'a>(
+    declared: &Declared,
+    params: &Typed,
+    place: Cursor<'a>,
+) -> Result<(Term, Cursor<'a>), Fault>
     ensures { Gives (λ found. (found.0, left found.1)) result (term_next declared.now params.now (left place.entry)) }
 {
     match place.next() {
@@ -132,25 +138,67 @@ impl Conditions {
     }
 
     #[tactic(auto, unfolding(crate::specs::Conditions::present))]
-    fn read_present(&mut self, alloc: Global, declared: &Declared, params: &Typed, atom: u32, at: u32, bytes: &[u8], rest: Cursor<'_>) -> Result<(), Fault>
+    fn read_present(
+        &mut self,
+        alloc: Global,
+        declared: &Declared,
+        params: &Typed,
+        atom: u32,
+        at: u32,
+        bytes: &[u8],
+        rest: Cursor<'_>,
+    ) -> Result<(), Fault>
         ensures { Gives (λ _. conds_of self.new) result (present declared.now params.now (conds_of self.old) atom at bytes.now (left rest.entry)) }
     {
-        let lit = atom_in(alloc, declared, params, self.is_full(), atom, at, bytes, rest)?;
+        let lit = atom_in(
+            alloc,
+            declared,
+            params,
+            self.is_full(),
+            atom,
+            at,
+            bytes,
+            rest,
+        )?;
         self.pre.push(lit)?;
         Ok(())
     }
 
     #[tactic(auto, unfolding(crate::specs::Conditions::absent_atom))]
-    fn read_absent(&mut self, alloc: Global, declared: &Declared, params: &Typed, atom: u32, at: u32, bytes: &[u8], rest: Cursor<'_>) -> Result<(), Fault>
+    fn read_absent(
+        &mut self,
+        alloc: Global,
+        declared: &Declared,
+        params: &Typed,
+        atom: u32,
+        at: u32,
+        bytes: &[u8],
+        rest: Cursor<'_>,
+    ) -> Result<(), Fault>
         ensures { Gives (λ _. conds_of self.new) result (absent_atom declared.now params.now (conds_of self.old) atom at bytes.now (left rest.entry)) }
     {
-        let lit = atom_in(alloc, declared, params, self.is_full(), atom, at, bytes, rest)?;
+        let lit = atom_in(
+            alloc,
+            declared,
+            params,
+            self.is_full(),
+            atom,
+            at,
+            bytes,
+            rest,
+        )?;
         self.absent.push(lit)?;
         Ok(())
     }
 
     #[tactic(auto, unfolding(crate::specs::Conditions::two_terms))]
-    fn read_two_terms(&mut self, declared: &Declared, params: &Typed, equal: bool, place: Cursor<'_>) -> Result<(), Fault>
+    fn read_two_terms(
+        &mut self,
+        declared: &Declared,
+        params: &Typed,
+        equal: bool,
+        place: Cursor<'_>,
+    ) -> Result<(), Fault>
         ensures { Gives (λ _. conds_of self.new) result (two_terms declared.now params.now (conds_of self.old) equal (left place.entry)) }
     {
         let (left, rest) = term_next(declared, params, place)?;
@@ -161,7 +209,14 @@ impl Conditions {
     }
 
     #[tactic(auto, unfolding(crate::specs::Conditions::equation))]
-    fn read_equation(&mut self, declared: &Declared, params: &Typed, at: u32, equal: bool, place: Cursor<'_>) -> Result<(), Fault>
+    fn read_equation(
+        &mut self,
+        declared: &Declared,
+        params: &Typed,
+        at: u32,
+        equal: bool,
+        place: Cursor<'_>,
+    ) -> Result<(), Fault>
         ensures { Gives (λ _. conds_of self.new) result (equation declared.now params.now (conds_of self.old) at equal (left place.entry)) }
     {
         if has_group_side(place) {
@@ -170,7 +225,17 @@ impl Conditions {
         self.read_two_terms(declared, params, equal, place)
     }
 
-    fn read_negated_by(&mut self, alloc: Global, declared: &Declared, params: &Typed, not_at: u32, atom: u32, at: u32, bytes: &[u8], rest: Cursor<'_>) -> Result<(), Fault>
+    fn read_negated_by(
+        &mut self,
+        alloc: Global,
+        declared: &Declared,
+        params: &Typed,
+        not_at: u32,
+        atom: u32,
+        at: u32,
+        bytes: &[u8],
+        rest: Cursor<'_>,
+    ) -> Result<(), Fault>
         ensures { Gives (λ _. conds_of self.new) result (negated_by declared.now params.now (conds_of self.old) not_at atom at bytes.now (left rest.entry) (head_of bytes.now)) }
     {
         match head_of(bytes) {
@@ -185,18 +250,35 @@ impl Conditions {
         }
     }
 
-    fn read_negated_group(&mut self, alloc: Global, declared: &Declared, params: &Typed, not_at: u32, atom: u32, inside: Cursor<'_>) -> Result<(), Fault>
+    fn read_negated_group(
+        &mut self,
+        alloc: Global,
+        declared: &Declared,
+        params: &Typed,
+        not_at: u32,
+        atom: u32,
+        inside: Cursor<'_>,
+    ) -> Result<(), Fault>
         ensures { Gives (λ _. conds_of self.new) result (negated_group declared.now params.now (conds_of self.old) not_at atom (left inside.entry)) }
     {
         match inside.next() {
             Next::End(close) => Err(Fault::Shape(close)),
-            Next::Word(at, bytes, rest) => self.read_negated_by(alloc, declared, params, not_at, atom, at, bytes, rest),
+            Next::Word(at, bytes, rest) => self.read_negated_by(
+                alloc, declared, params, not_at, atom, at, bytes, rest,
+            ),
             Next::Group(at, _, _) => Err(Fault::Shape(at)),
         }
     }
 
     #[tactic(auto, unfolding(crate::specs::Conditions::negated))]
-    fn read_negated(&mut self, alloc: Global, declared: &Declared, params: &Typed, not_at: u32, place: Cursor<'_>) -> Result<(), Fault>
+    fn read_negated(
+        &mut self,
+        alloc: Global,
+        declared: &Declared,
+        params: &Typed,
+        not_at: u32,
+        place: Cursor<'_>,
+    ) -> Result<(), Fault>
         ensures { Gives (λ _. conds_of self.new) result (negated declared.now params.now (conds_of self.old) not_at (left place.entry)) }
     {
         let (atom, inside, rest) = group_at(place)?;
@@ -206,7 +288,13 @@ impl Conditions {
 
     /// Reads conditions, each in its group, to the end of the group that they are in.
     #[cycle(reading)]
-    fn read_all(&mut self, alloc: Global, declared: &Declared, params: &Typed, place: Cursor<'_>) -> Result<(), Fault>
+    fn read_all(
+        &mut self,
+        alloc: Global,
+        declared: &Declared,
+        params: &Typed,
+        place: Cursor<'_>,
+    ) -> Result<(), Fault>
         ensures { Gives (λ _. conds_of self.new) result (conditions_in declared.now params.now (conds_of self.old) (left place.entry)) }
     {
         let mut here = place;
@@ -224,7 +312,14 @@ impl Conditions {
 
     /// Reads what is in the group of a condition that begins at the byte.
     #[cycle(reading)]
-    pub fn read(&mut self, alloc: Global, declared: &Declared, params: &Typed, atom: u32, inside: Cursor<'_>) -> Result<(), Fault>
+    pub fn read(
+        &mut self,
+        alloc: Global,
+        declared: &Declared,
+        params: &Typed,
+        atom: u32,
+        inside: Cursor<'_>,
+    ) -> Result<(), Fault>
         ensures { Gives (λ _. conds_of self.new) result (condition_in declared.now params.now (conds_of self.old) atom (left inside.entry)) }
     {
         match inside.next() {
@@ -244,7 +339,13 @@ impl Conditions {
     }
 
     #[tactic(auto, unfolding(crate::specs::Conditions::tagged))]
-    fn read_tagged(&mut self, alloc: Global, declared: &Declared, params: &Typed, place: Cursor<'_>) -> Result<(), Fault>
+    fn read_tagged(
+        &mut self,
+        alloc: Global,
+        declared: &Declared,
+        params: &Typed,
+        place: Cursor<'_>,
+    ) -> Result<(), Fault>
         ensures { Gives (λ _. conds_of self.new) result (tagged declared.now params.now (conds_of self.old) (left place.entry)) }
     {
         let (atom, inside, rest) = group_at(place)?;
@@ -254,7 +355,13 @@ impl Conditions {
 
     /// Reads tagged conditions, each in its group, to the end of the group that they are in.
     #[cycle(timed)]
-    fn read_all_timed(&mut self, alloc: Global, declared: &Declared, params: &Typed, place: Cursor<'_>) -> Result<(), Fault>
+    fn read_all_timed(
+        &mut self,
+        alloc: Global,
+        declared: &Declared,
+        params: &Typed,
+        place: Cursor<'_>,
+    ) -> Result<(), Fault>
         ensures { Gives (λ _. conds_of self.new) result (timed_conditions_in declared.now params.now (conds_of self.old) (left place.entry)) }
     {
         let mut here = place;
@@ -271,7 +378,13 @@ impl Conditions {
     }
 
     #[tactic(auto, unfolding(crate::specs::Conditions::at_moment))]
-    fn read_at_moment(&mut self, alloc: Global, declared: &Declared, params: &Typed, place: Cursor<'_>) -> Result<(), Fault>
+    fn read_at_moment(
+        &mut self,
+        alloc: Global,
+        declared: &Declared,
+        params: &Typed,
+        place: Cursor<'_>,
+    ) -> Result<(), Fault>
         ensures { Gives (λ _. conds_of self.new) result (at_moment declared.now params.now (conds_of self.old) (left place.entry)) }
     {
         let rest = after_moment(place)?;
@@ -279,7 +392,13 @@ impl Conditions {
     }
 
     #[tactic(auto, unfolding(crate::specs::Conditions::over_all))]
-    fn read_over_all(&mut self, alloc: Global, declared: &Declared, params: &Typed, place: Cursor<'_>) -> Result<(), Fault>
+    fn read_over_all(
+        &mut self,
+        alloc: Global,
+        declared: &Declared,
+        params: &Typed,
+        place: Cursor<'_>,
+    ) -> Result<(), Fault>
         ensures { Gives (λ _. conds_of self.new) result (over_all declared.now params.now (conds_of self.old) (left place.entry)) }
     {
         let rest = after_all(place)?;
@@ -288,7 +407,14 @@ impl Conditions {
 
     /// Reads what is in the group of a tagged condition that begins at the byte.
     #[cycle(timed)]
-    pub fn read_timed(&mut self, alloc: Global, declared: &Declared, params: &Typed, atom: u32, inside: Cursor<'_>) -> Result<(), Fault>
+    pub fn read_timed(
+        &mut self,
+        alloc: Global,
+        declared: &Declared,
+        params: &Typed,
+        atom: u32,
+        inside: Cursor<'_>,
+    ) -> Result<(), Fault>
         ensures { Gives (λ _. conds_of self.new) result (timed_condition_in declared.now params.now (conds_of self.old) atom (left inside.entry)) }
     {
         match inside.next() {

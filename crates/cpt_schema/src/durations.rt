@@ -7,7 +7,9 @@ ghost use Rattle.cpt_schema.specs.Durations.{after_this, duration_after, duratio
 
 use crate::terms::{Lit, Term, applied};
 use cpt_declared::Declared;
-use cpt_pddl::{Cursor, Fault, Feature, Next, Typed, group_at, is_name, is_word, nothing, number_in};
+use cpt_pddl::{
+    Cursor, Fault, Feature, Next, Typed, group_at, is_name, is_word, nothing, number_in,
+};
 use cpt_task::List;
 use std::alloc::Global;
 
@@ -42,14 +44,29 @@ fn fixed(at: u32, bytes: &[u8], rest: Cursor<'_>) -> Result<Lasting, Fault>
     Ok(lasting)
 }
 
-fn function_term(alloc: Global, declared: &Declared, params: &Typed, atom: u32, inside: Cursor<'_>) -> Result<Lit, Fault>
+fn function_term(
+    alloc: Global,
+    declared: &Declared,
+    params: &Typed,
+    atom: u32,
+    inside: Cursor<'_>,
+) -> Result<Lit, Fault>
     ensures { Gives (λ term. term) result (function_term declared.now params.now atom (left inside.entry)) }
 {
     match inside.next() {
         Next::End(close) => Err(Fault::Shape(close)),
         Next::Word(at, bytes, rest) => {
             if is_name(bytes) {
-                applied(alloc, declared, params, &declared.functions, atom, at, bytes, rest)
+                applied(
+                    alloc,
+                    declared,
+                    params,
+                    &declared.functions,
+                    atom,
+                    at,
+                    bytes,
+                    rest,
+                )
             } else {
                 Err(Fault::Shape(at))
             }
@@ -59,7 +76,14 @@ fn function_term(alloc: Global, declared: &Declared, params: &Typed, atom: u32, 
 }
 
 #[tactic(auto, unfolding(crate::specs::Durations::valued))]
-fn valued(alloc: Global, declared: &Declared, params: &Typed, atom: u32, inside: Cursor<'_>, rest: Cursor<'_>) -> Result<Lasting, Fault>
+fn valued(
+    alloc: Global,
+    declared: &Declared,
+    params: &Typed,
+    atom: u32,
+    inside: Cursor<'_>,
+    rest: Cursor<'_>,
+) -> Result<Lasting, Fault>
     ensures { Gives (λ lasting. lasting) result (valued declared.now params.now atom (left inside.entry) (left rest.entry)) }
 {
     let Lit { pred, terms } = function_term(alloc, declared, params, atom, inside)?;
@@ -92,7 +116,13 @@ fn is_asked(bytes: &[u8]) -> bool
     }
 }
 
-fn duration_value(alloc: Global, declared: &Declared, params: &Typed, from: u32, place: Cursor<'_>) -> Result<Lasting, Fault>
+fn duration_value(
+    alloc: Global,
+    declared: &Declared,
+    params: &Typed,
+    from: u32,
+    place: Cursor<'_>,
+) -> Result<Lasting, Fault>
     ensures { Gives (λ lasting. lasting) result (duration_value declared.now params.now from (left place.entry)) }
 {
     match place.next() {
@@ -131,7 +161,13 @@ fn after_this<'a>(wanted: &str, place: Cursor<'a>) -> Option<Cursor<'a>>
 }
 
 #[tactic(auto, unfolding(crate::specs::Durations::duration_in))]
-fn duration_in(alloc: Global, declared: &Declared, params: &Typed, from: u32, inside: Cursor<'_>) -> Result<Lasting, Fault>
+fn duration_in(
+    alloc: Global,
+    declared: &Declared,
+    params: &Typed,
+    from: u32,
+    inside: Cursor<'_>,
+) -> Result<Lasting, Fault>
     ensures { Gives (λ lasting. lasting) result (duration_in declared.now params.now from (left inside.entry)) }
 {
     let Some(rest) = after_this("=", inside) else {
@@ -145,7 +181,12 @@ fn duration_in(alloc: Global, declared: &Declared, params: &Typed, from: u32, in
 
 /// The duration in the group that has to stand here, and what follows it.
 #[tactic(auto, unfolding(crate::specs::Durations::duration_next))]
-pub fn duration_next<'a>(alloc: Global, declared: &Declared, params: &Typed, place: Cursor<'a>) -> Result<(Lasting, Cursor<'a>), Fault>
+pub fn duration_next<'a>(
+    alloc: Global,
+    declared: &Declared,
+    params: &Typed,
+    place: Cursor<'a>,
+) -> Result<(Lasting, Cursor<'a>), Fault>
     ensures { Gives (λ found. (found.0, left found.1)) result (duration_next declared.now params.now (left place.entry)) }
 {
     let (from, inside, rest) = group_at(place)?;

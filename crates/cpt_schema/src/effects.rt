@@ -118,7 +118,17 @@ impl Effects {
     }
 
     #[tactic(auto, unfolding(crate::specs::Effects::add_atom))]
-    fn read_added(&mut self, alloc: Global, declared: &Declared, params: &Typed, tag: Tag, atom: u32, at: u32, bytes: &[u8], rest: Cursor<'_>) -> Result<(), Fault>
+    fn read_added(
+        &mut self,
+        alloc: Global,
+        declared: &Declared,
+        params: &Typed,
+        tag: Tag,
+        atom: u32,
+        at: u32,
+        bytes: &[u8],
+        rest: Cursor<'_>,
+    ) -> Result<(), Fault>
         ensures { Gives (λ _. effs_of self.new) result (add_atom declared.now params.now tag (effs_of self.old) atom at bytes.now (left rest.entry)) }
     {
         let full = self.adds.len() >= 64;
@@ -127,7 +137,17 @@ impl Effects {
     }
 
     #[tactic(auto, unfolding(crate::specs::Effects::delete_atom))]
-    fn read_deleted(&mut self, alloc: Global, declared: &Declared, params: &Typed, tag: Tag, atom: u32, at: u32, bytes: &[u8], rest: Cursor<'_>) -> Result<(), Fault>
+    fn read_deleted(
+        &mut self,
+        alloc: Global,
+        declared: &Declared,
+        params: &Typed,
+        tag: Tag,
+        atom: u32,
+        at: u32,
+        bytes: &[u8],
+        rest: Cursor<'_>,
+    ) -> Result<(), Fault>
         ensures { Gives (λ _. effs_of self.new) result (delete_atom declared.now params.now tag (effs_of self.old) atom at bytes.now (left rest.entry)) }
     {
         let full = self.dels.len() >= 64;
@@ -135,18 +155,35 @@ impl Effects {
         self.delete(tag, lit)
     }
 
-    fn read_deleted_group(&mut self, alloc: Global, declared: &Declared, params: &Typed, tag: Tag, atom: u32, inside: Cursor<'_>) -> Result<(), Fault>
+    fn read_deleted_group(
+        &mut self,
+        alloc: Global,
+        declared: &Declared,
+        params: &Typed,
+        tag: Tag,
+        atom: u32,
+        inside: Cursor<'_>,
+    ) -> Result<(), Fault>
         ensures { Gives (λ _. effs_of self.new) result (delete_group declared.now params.now tag (effs_of self.old) atom (left inside.entry)) }
     {
         match inside.next() {
             Next::End(close) => Err(Fault::Shape(close)),
-            Next::Word(at, bytes, rest) => self.read_deleted(alloc, declared, params, tag, atom, at, bytes, rest),
+            Next::Word(at, bytes, rest) => self.read_deleted(
+                alloc, declared, params, tag, atom, at, bytes, rest,
+            ),
             Next::Group(at, _, _) => Err(Fault::Shape(at)),
         }
     }
 
     #[tactic(auto, unfolding(crate::specs::Effects::deletion))]
-    fn read_deletion(&mut self, alloc: Global, declared: &Declared, params: &Typed, tag: Tag, place: Cursor<'_>) -> Result<(), Fault>
+    fn read_deletion(
+        &mut self,
+        alloc: Global,
+        declared: &Declared,
+        params: &Typed,
+        tag: Tag,
+        place: Cursor<'_>,
+    ) -> Result<(), Fault>
         ensures { Gives (λ _. effs_of self.new) result (deletion declared.now params.now tag (effs_of self.old) (left place.entry)) }
     {
         let (atom, inside, rest) = group_at(place)?;
@@ -156,7 +193,14 @@ impl Effects {
 
     /// Reads effects, each in its group, to the end of the group that they are in.
     #[cycle(reading)]
-    fn read_all(&mut self, alloc: Global, declared: &Declared, params: &Typed, tag: Tag, place: Cursor<'_>) -> Result<(), Fault>
+    fn read_all(
+        &mut self,
+        alloc: Global,
+        declared: &Declared,
+        params: &Typed,
+        tag: Tag,
+        place: Cursor<'_>,
+    ) -> Result<(), Fault>
         ensures { Gives (λ _. effs_of self.new) result (effects_in declared.now params.now tag (effs_of self.old) (left place.entry)) }
     {
         let mut here = place;
@@ -174,7 +218,15 @@ impl Effects {
 
     /// Reads what is in the group of an effect that begins at the byte.
     #[cycle(reading)]
-    pub fn read(&mut self, alloc: Global, declared: &Declared, params: &Typed, tag: Tag, atom: u32, inside: Cursor<'_>) -> Result<(), Fault>
+    pub fn read(
+        &mut self,
+        alloc: Global,
+        declared: &Declared,
+        params: &Typed,
+        tag: Tag,
+        atom: u32,
+        inside: Cursor<'_>,
+    ) -> Result<(), Fault>
         ensures { Gives (λ _. effs_of self.new) result (effect_in declared.now params.now tag (effs_of self.old) atom (left inside.entry)) }
     {
         match inside.next() {
@@ -194,7 +246,14 @@ impl Effects {
     }
 
     #[tactic(auto, unfolding(crate::specs::Effects::tagged_effect))]
-    fn read_tagged(&mut self, alloc: Global, declared: &Declared, params: &Typed, atom: u32, place: Cursor<'_>) -> Result<(), Fault>
+    fn read_tagged(
+        &mut self,
+        alloc: Global,
+        declared: &Declared,
+        params: &Typed,
+        atom: u32,
+        place: Cursor<'_>,
+    ) -> Result<(), Fault>
         ensures { Gives (λ _. effs_of self.new) result (tagged_effect declared.now params.now (effs_of self.old) atom (left place.entry)) }
     {
         let (tag, rest) = tag_next(atom, place)?;
@@ -205,7 +264,13 @@ impl Effects {
 
     /// Reads tagged effects, each in its group, to the end of the group that they are in.
     #[cycle(timed)]
-    fn read_all_timed(&mut self, alloc: Global, declared: &Declared, params: &Typed, place: Cursor<'_>) -> Result<(), Fault>
+    fn read_all_timed(
+        &mut self,
+        alloc: Global,
+        declared: &Declared,
+        params: &Typed,
+        place: Cursor<'_>,
+    ) -> Result<(), Fault>
         ensures { Gives (λ _. effs_of self.new) result (timed_effects_in declared.now params.now (effs_of self.old) (left place.entry)) }
     {
         let mut here = place;
@@ -223,7 +288,14 @@ impl Effects {
 
     /// Reads what is in the group of a tagged effect that begins at the byte.
     #[cycle(timed)]
-    pub fn read_timed(&mut self, alloc: Global, declared: &Declared, params: &Typed, atom: u32, inside: Cursor<'_>) -> Result<(), Fault>
+    pub fn read_timed(
+        &mut self,
+        alloc: Global,
+        declared: &Declared,
+        params: &Typed,
+        atom: u32,
+        inside: Cursor<'_>,
+    ) -> Result<(), Fault>
         ensures { Gives (λ _. effs_of self.new) result (timed_effect_in declared.now params.now (effs_of self.old) atom (left inside.entry)) }
     {
         match inside.next() {

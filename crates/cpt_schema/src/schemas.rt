@@ -12,7 +12,10 @@ use crate::durations::{Lasting, duration_next};
 use crate::effects::{Effect, Effects, Tag};
 use crate::terms::Lit;
 use cpt_declared::Declared;
-use cpt_pddl::{Cursor, Fault, Names, Next, Sort, Typed, after_word, group_at, is_word, name_at, nothing, typed_list};
+use cpt_pddl::{
+    Cursor, Fault, Names, Next, Sort, Typed, after_word, group_at, is_word, name_at, nothing,
+    typed_list,
+};
 use cpt_task::{List, Name};
 use std::alloc::Global;
 
@@ -56,12 +59,21 @@ fn parameters_by(alloc: Global, declared: &Declared, found: Found<'_>) -> Result
 {
     match found {
         None => Ok(Typed::new(alloc)),
-        Some((_, inside)) => typed_list(Sort::Variables, &declared.types.names, Typed::new(alloc), inside),
+        Some((_, inside)) => typed_list(
+            Sort::Variables,
+            &declared.types.names,
+            Typed::new(alloc),
+            inside,
+        ),
     }
 }
 
 #[tactic(auto, unfolding(crate::specs::Schemas::parameters))]
-fn parameters<'a>(alloc: Global, declared: &Declared, place: Cursor<'a>) -> Result<(Typed, Cursor<'a>), Fault>
+fn parameters<'a>(
+    alloc: Global,
+    declared: &Declared,
+    place: Cursor<'a>,
+) -> Result<(Typed, Cursor<'a>), Fault>
     ensures { Gives (λ x. (x.0, left x.1)) result (parameters declared.now (left place.entry)) }
 {
     let (found, rest) = part(":parameters", place)?;
@@ -69,7 +81,13 @@ fn parameters<'a>(alloc: Global, declared: &Declared, place: Cursor<'a>) -> Resu
     Ok((params, rest))
 }
 
-fn condition_part(alloc: Global, tagged: bool, declared: &Declared, params: &Typed, found: Found<'_>) -> Result<Conditions, Fault>
+fn condition_part(
+    alloc: Global,
+    tagged: bool,
+    declared: &Declared,
+    params: &Typed,
+    found: Found<'_>,
+) -> Result<Conditions, Fault>
     ensures { Gives conds_of result (condition_part tagged declared.now params.now (found_of found.entry)) }
 {
     let mut conditions = Conditions::new(alloc);
@@ -83,7 +101,13 @@ fn condition_part(alloc: Global, tagged: bool, declared: &Declared, params: &Typ
     Ok(conditions)
 }
 
-fn effect_part(alloc: Global, tagged: bool, declared: &Declared, params: &Typed, found: Found<'_>) -> Result<Effects, Fault>
+fn effect_part(
+    alloc: Global,
+    tagged: bool,
+    declared: &Declared,
+    params: &Typed,
+    found: Found<'_>,
+) -> Result<Effects, Fault>
     ensures { Gives effs_of result (effect_part tagged declared.now params.now (found_of found.entry)) }
 {
     let mut effects = Effects::new(alloc);
@@ -100,11 +124,21 @@ fn effect_part(alloc: Global, tagged: bool, declared: &Declared, params: &Typed,
 fn condition_word(tagged: bool) -> &'static str
     ensures { result.now ≡ condition_word tagged }
 {
-    if tagged { ":condition" } else { ":precondition" }
+    if tagged {
+        ":condition"
+    } else {
+        ":precondition"
+    }
 }
 
 #[tactic(auto, unfolding(crate::specs::Schemas::body))]
-fn body(alloc: Global, tagged: bool, declared: &Declared, params: &Typed, place: Cursor<'_>) -> Result<(Conditions, Effects), Fault>
+fn body(
+    alloc: Global,
+    tagged: bool,
+    declared: &Declared,
+    params: &Typed,
+    place: Cursor<'_>,
+) -> Result<(Conditions, Effects), Fault>
     ensures { Gives (λ x. (conds_of x.0, effs_of x.1)) result (body tagged declared.now params.now (left place.entry)) }
 {
     let (condition, rest) = part(condition_word(tagged), place)?;
@@ -115,7 +149,13 @@ fn body(alloc: Global, tagged: bool, declared: &Declared, params: &Typed, place:
     Ok((conditions, effects))
 }
 
-fn lasting_next<'a>(alloc: Global, durative: bool, declared: &Declared, params: &Typed, place: Cursor<'a>) -> Result<(Lasting, Cursor<'a>), Fault>
+fn lasting_next<'a>(
+    alloc: Global,
+    durative: bool,
+    declared: &Declared,
+    params: &Typed,
+    place: Cursor<'a>,
+) -> Result<(Lasting, Cursor<'a>), Fault>
     ensures { Gives (λ x. (x.0, left x.1)) result (lasting_next durative declared.now params.now (left place.entry)) }
 {
     if durative {
@@ -147,7 +187,13 @@ fn name_of(alloc: Global, bytes: &[u8]) -> Result<Name, Fault>
 }
 
 #[tactic(auto, unfolding(crate::specs::Schemas::schema_after))]
-fn schema_after(alloc: Global, durative: bool, declared: &Declared, name: &[u8], place: Cursor<'_>) -> Result<Schema, Fault>
+fn schema_after(
+    alloc: Global,
+    durative: bool,
+    declared: &Declared,
+    name: &[u8],
+    place: Cursor<'_>,
+) -> Result<Schema, Fault>
     ensures { Gives (λ schema. schema) result (schema_after durative declared.now name.now (left place.entry)) }
 {
     let (params, rest) = parameters(alloc, declared, place)?;
@@ -156,7 +202,14 @@ fn schema_after(alloc: Global, durative: bool, declared: &Declared, name: &[u8],
     assembled(alloc, name, params, dur, conditions, effects)
 }
 
-fn assembled(alloc: Global, name: &[u8], params: Typed, dur: Lasting, conditions: Conditions, effects: Effects) -> Result<Schema, Fault>
+fn assembled(
+    alloc: Global,
+    name: &[u8],
+    params: Typed,
+    dur: Lasting,
+    conditions: Conditions,
+    effects: Effects,
+) -> Result<Schema, Fault>
     ensures { Gives (λ schema. schema) result (Ok (assembled name.now params dur (conds_of conditions) (effs_of effects))) }
 {
     let Typed { kinds, .. } = params;
@@ -179,7 +232,13 @@ fn assembled(alloc: Global, name: &[u8], params: Typed, dur: Lasting, conditions
 
 /// What follows the keyword of an action, durative or not, whose name is to be none of those that are known.
 #[tactic(auto, unfolding(crate::specs::Schemas::schema_in))]
-pub fn schema_in(alloc: Global, durative: bool, declared: &Declared, known: &Names, place: Cursor<'_>) -> Result<Schema, Fault>
+pub fn schema_in(
+    alloc: Global,
+    durative: bool,
+    declared: &Declared,
+    known: &Names,
+    place: Cursor<'_>,
+) -> Result<Schema, Fault>
     ensures { Gives (λ schema. schema) result (schema_in durative declared.now known.now (left place.entry)) }
 {
     let (at, name, rest) = name_at(place)?;

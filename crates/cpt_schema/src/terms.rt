@@ -26,18 +26,29 @@ pub struct Lit {
 
 /// The parameter or constant that the word is, with its type.
 #[tactic(auto, unfolding(crate::specs::Terms::term_at))]
-pub fn term_at(declared: &Declared, params: &Typed, at: u32, bytes: &[u8]) -> Result<(Term, u32), Fault>
+pub fn term_at(
+    declared: &Declared,
+    params: &Typed,
+    at: u32,
+    bytes: &[u8],
+) -> Result<(Term, u32), Fault>
     ensures { Gives (λ found. (found.0, found.1)) result (term_at declared.now params.now at bytes.now) }
 {
     if is_variable(bytes) {
         match params.names.find(bytes) {
             None => Err(Fault::BadName(at)),
-            Some(number) => Ok((Term::Param(number), kind_at(params.kinds.as_slice(), number))),
+            Some(number) => Ok((
+                Term::Param(number),
+                kind_at(params.kinds.as_slice(), number),
+            )),
         }
     } else if is_name(bytes) {
         match declared.constants.names.find(bytes) {
             None => Err(Fault::BadName(at)),
-            Some(number) => Ok((Term::Object(number), kind_at(declared.constants.kinds.as_slice(), number))),
+            Some(number) => Ok((
+                Term::Object(number),
+                kind_at(declared.constants.kinds.as_slice(), number),
+            )),
         }
     } else {
         Err(Fault::Shape(at))
@@ -55,7 +66,13 @@ fn extra_term(atom: u32, at: u32, bytes: &[u8]) -> Fault
 }
 
 #[tactic(auto, unfolding(crate::specs::Terms::typed_term))]
-fn typed_term(declared: &Declared, params: &Typed, wanted: u32, at: u32, bytes: &[u8]) -> Result<Term, Fault>
+fn typed_term(
+    declared: &Declared,
+    params: &Typed,
+    wanted: u32,
+    at: u32,
+    bytes: &[u8],
+) -> Result<Term, Fault>
     ensures { Gives (λ term. term) result (typed_term declared.now params.now wanted at bytes.now) }
 {
     let (term, kind) = term_at(declared, params, at, bytes)?;
@@ -66,7 +83,14 @@ fn typed_term(declared: &Declared, params: &Typed, wanted: u32, at: u32, bytes: 
     }
 }
 
-fn next_term(declared: &Declared, params: &Typed, atom: u32, wanted: Option<u32>, at: u32, bytes: &[u8]) -> Result<Term, Fault>
+fn next_term(
+    declared: &Declared,
+    params: &Typed,
+    atom: u32,
+    wanted: Option<u32>,
+    at: u32,
+    bytes: &[u8],
+) -> Result<Term, Fault>
     ensures { Gives (λ term. term) result (next_term declared.now params.now atom wanted at bytes.now) }
 {
     match wanted {
@@ -83,7 +107,14 @@ fn wanted_at(wanted: &[u32], place: usize) -> Option<u32>
 
 /// The terms of the atom that begins at the byte `atom`, one of each wanted type.
 #[tactic(auto, unfolding(crate::specs::Terms::terms_in))]
-pub fn terms_in(alloc: Global, declared: &Declared, params: &Typed, atom: u32, wanted: &[u32], place: Cursor<'_>) -> Result<List<Term>, Fault>
+pub fn terms_in(
+    alloc: Global,
+    declared: &Declared,
+    params: &Typed,
+    atom: u32,
+    wanted: &[u32],
+    place: Cursor<'_>,
+) -> Result<List<Term>, Fault>
     ensures { Gives (λ terms. terms) result (terms_in declared.now params.now atom wanted.now (left place.entry)) }
 {
     let mut terms = Vec::new(alloc);
@@ -109,7 +140,16 @@ pub fn terms_in(alloc: Global, declared: &Declared, params: &Typed, atom: u32, w
 
 /// The predicate or function that the word at the byte `at` names, with its terms.
 #[tactic(auto, unfolding(crate::specs::Terms::applied))]
-pub fn applied(alloc: Global, declared: &Declared, params: &Typed, sigs: &Signatures, atom: u32, at: u32, bytes: &[u8], rest: Cursor<'_>) -> Result<Lit, Fault>
+pub fn applied(
+    alloc: Global,
+    declared: &Declared,
+    params: &Typed,
+    sigs: &Signatures,
+    atom: u32,
+    at: u32,
+    bytes: &[u8],
+    rest: Cursor<'_>,
+) -> Result<Lit, Fault>
     ensures { Gives (λ lit. lit) result (applied declared.now params.now sigs.now atom at bytes.now (left rest.entry)) }
 {
     let Some(pred) = sigs.names.find(bytes) else {
@@ -121,7 +161,16 @@ pub fn applied(alloc: Global, declared: &Declared, params: &Typed, sigs: &Signat
 
 /// The atom that begins at the byte `atom` with the word at the byte `at`, unless the list that it is for is full.
 #[tactic(auto, unfolding(crate::specs::Terms::atom_in))]
-pub fn atom_in(alloc: Global, declared: &Declared, params: &Typed, full: bool, atom: u32, at: u32, bytes: &[u8], rest: Cursor<'_>) -> Result<Lit, Fault>
+pub fn atom_in(
+    alloc: Global,
+    declared: &Declared,
+    params: &Typed,
+    full: bool,
+    atom: u32,
+    at: u32,
+    bytes: &[u8],
+    rest: Cursor<'_>,
+) -> Result<Lit, Fault>
     ensures { Gives (λ lit. lit) result (atom_in declared.now params.now full atom at bytes.now (left rest.entry)) }
 {
     if !is_name(bytes) {
@@ -130,7 +179,16 @@ pub fn atom_in(alloc: Global, declared: &Declared, params: &Typed, full: bool, a
     if full {
         return Err(Fault::Limit(Limit::LongList, atom));
     }
-    applied(alloc, declared, params, &declared.predicates, atom, at, bytes, rest)
+    applied(
+        alloc,
+        declared,
+        params,
+        &declared.predicates,
+        atom,
+        at,
+        bytes,
+        rest,
+    )
 }
 
 fn same_term(a: Term, b: Term) -> bool
