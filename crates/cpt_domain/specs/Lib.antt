@@ -1,3 +1,6 @@
 pub mod Errors
 pub mod Parts
 pub mod Reading
+pub mod Sound
+pub mod SoundKinds
+pub mod SoundSchemas
