@@ -26,12 +26,13 @@ use Rattle.cpt_domain.specs.declared.keys.Key.TheVariants as keys
 use Rattle.cpt_domain.specs.declared.keys.Section as section
 use Rattle.cpt_domain.specs.declared.keys.Section.TheVariants.{Requirements, Types, Constants, Predicates, Functions}
 use Rattle.cpt_domain.specs.Reading.{Part, assembled, definition, domain_in, is_seen, key_of, name_in, nothing_declared, nothing_read, part_by, part_in, parts_in, section_in, with_action, with_declared, with_section}
-use Rattle.cpt_domain.specs.Sound.{FitTogether, IsSound}
+use Rattle.cpt_domain.specs.Sound.{FitTogether, Fits, IsSound}
 use Rattle.cpt_domain.specs.SoundKinds.{AreSignatures, AreTyped, IsSoundDeclared}
+use Rattle.cpt_domain.proofs.DomainNames.{DifferentPart, assembled_different, parts_different, start_different}
 use Rattle.cpt_domain.proofs.KindSoundness.{SoundTypes, kinds_sound, object_sound}
 use Rattle.cpt_domain.proofs.SchemaSoundness.{SchemaOf, schema_sound}
 use Rattle.cpt_domain.proofs.SignatureSoundness.{functions_sound, no_signatures_sound, predicates_sound}
-use Rattle.cpt_domain.proofs.Tools.{Holds, all_end, holds_any, holds_bind, holds_if, holds_ok, more_below}
+use Rattle.cpt_domain.proofs.Tools.{Holds, all_end, holds_any, holds_both, holds_bind, holds_if, holds_ok, more_below}
 use Rattle.cpt_domain.proofs.TypedSoundness.{typed_sound}
 
 -- what is sound over fewer types is sound over more
@@ -152,7 +153,7 @@ zipped_length make [] (y ∷ ys) e = absurd (omega (arith, e))
 zipped_length make (x ∷ xs) [] e = absurd (omega (arith, e))
 zipped_length make (x ∷ xs) (y ∷ ys) e = ap suc (zipped_length make xs ys (omega (arith, e)))
 
-assembled_sound : (name : List ℕ) (p : Part) → SoundPart p → IsSound (assembled name p)
+assembled_sound : (name : List ℕ) (p : Part) → SoundPart p → Fits (assembled name p)
 assembled_sound name p h =
     let d : Declared = p.declared in
     let make_type : List ℕ × ℕ → TypeDecl = λ q. record { name = q.0; parent = q.1 } in
@@ -186,8 +187,14 @@ definition_sound items =
     holds_bind (λ _. Unit {0}) IsSound (after_word (codes "define") items) _ (holds_any (after_word (codes "define") items))
     (λ rest _. holds_bind (λ _. Unit {0}) IsSound (group_at rest) _ (holds_any (group_at rest))
     (λ head _. holds_bind (λ _. Unit {0}) IsSound (name_in head.1) _ (holds_any (name_in head.1))
-    (λ name _. holds_bind SoundPart IsSound (parts_in nothing_read head.2) (λ whole. Ok (assembled name whole)) (parts_sound nothing_read head.2 start_sound)
-    (λ whole k. assembled_sound name whole k))))
+    (λ name _. holds_bind (λ (whole : Part). SoundPart whole × DifferentPart whole) IsSound (parts_in nothing_read head.2) (λ whole. Ok (assembled name whole))
+    (holds_both SoundPart DifferentPart (parts_in nothing_read head.2) (parts_sound nothing_read head.2 start_sound) (parts_different nothing_read head.2 start_different))
+    (λ whole k.
+    let h = k.0.declared in
+    record {
+      fit = assembled_sound name whole k.0;
+      names = assembled_different name whole h.types.lengths h.constants.lengths h.predicates.lengths h.functions.lengths k.1;
+    }))))
 
 domain_sound : (items : Items) → Holds IsSound (domain_in items)
 unfolding domain_in

@@ -9,3 +9,5 @@ mod SignatureSoundness
 mod TermSoundness
 mod Tools
 mod TypedSoundness
+mod NameSoundness
+mod DomainNames

@@ -34,6 +34,11 @@ pub holds_found : {A : Type 0} → (P : A → Type 0) (e : Fault) (o : Option A)
 holds_found P e None h = tt
 holds_found P e (Some x) h = h x refl
 
+-- two things that are so
+pub holds_both : {A : Type 0} → (P Q : A → Type 0) (r : Result A Fault) → Holds P r → Holds Q r → Holds (λ x. P x × Q x) r
+holds_both P Q (Ok x) h k = (h, k)
+holds_both P Q (Err e) h k = tt
+
 -- what was read, by its equation
 pub holds_ok : {A : Type 0} → (P : A → Type 0) (r : Result A Fault) (x : A) → r ≡ Ok x → Holds P r → P x
 holds_ok P r x e h = subst (Holds P) e h

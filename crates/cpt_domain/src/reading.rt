@@ -333,7 +333,7 @@ fn domain_error(fault: Fault) -> DomainError
 pub fn read_domain(alloc: Global, forest: &Forest) -> Result<Domain, DomainError>
     // The text says so, or has this fault.
     ensures exact { Answers result (domain_of forest.now) }
-    // Each number of a domain that is read is in range, and no limit is passed.
+    // What is read is sound: each number is in range, names of one kind are different, and no limit is passed.
     ensures sound { IfOk result IsSound }
 {
     match domain_in(alloc, Cursor::new(forest)) {
