@@ -1,0 +1,15 @@
+//! Domains, and how they are read.
+#![tactic(auto)]
+
+mod domain;
+mod error;
+mod keys;
+mod reading;
+#[cfg(test)]
+mod tests;
+
+pub use cpt_pddl::Feature;
+pub use cpt_schema::{Lasting, Lit, Schema, Term, Test};
+pub use domain::{Domain, Function, ObjectDecl, Predicate, TypeDecl};
+pub use error::DomainError;
+pub use reading::read_domain;

@@ -1,0 +1,3 @@
+mod CursorLemmas
+mod KindLemmas
+mod NumberLemmas
