@@ -1,0 +1,6 @@
+pub mod Closing
+pub mod Decisions
+pub mod Flaws
+pub mod Plans
+pub mod Root
+pub mod Rules
