@@ -58,9 +58,13 @@ behind_tokens n (Out a ∷ cs) = Tok n ∷ Out a ∷ cs
 abbrev pub beside : ℕ → ℕ → List Cand → List Cand
 beside a n cs = if has (Out a) cs then behind_tokens n cs else cs
 
+-- the token n of the action a is added beside Out a in the list
+abbrev pub offer : ℕ → ℕ → Need → Need
+offer a n m = record m { cands = beside a n m.cands }
+
 -- the token n of the action a is added beside Out a in each list of the token
 abbrev pub offered : ℕ → ℕ → Token → Token
-offered a n z = record z { lists = map (λ m. record m { cands = beside a n m.cands }) z.lists }
+offered a n z = record z { lists = map (offer a n) z.lists }
 
 -- the token n of the action a is added beside Out a in each list
 abbrev pub with_offers : Sheet → ℕ → ℕ → Sheet

@@ -4,13 +4,14 @@ use Rattle.cpt_task.specs.declared.span.Span.{Span}
 use Rattle.cpt_task.specs.declared.span.Span.TheVariants.{At, Never}
 use Rattle.cpt_task.specs.Shape.{TaskShape}
 use Rattle.cpt_tables.specs.declared.tables.Tables.{Tables}
-use Rattle.cpt_tables.specs.Spans.{◌≤ˢ◌, ◌<ˢ◌, IsBelow}
+use Rattle.cpt_tables.specs.Spans.{◌≤ˢ◌, ◌<ˢ◌, ◌+ˢ◌, IsBelow}
 use Rattle.cpt_tables.specs.Admissible.{nth_action}
 use Rattle.cpt_sheet.specs.declared.data.Cand.{Cand}
 use Rattle.cpt_sheet.specs.declared.data.Cand.TheVariants.{Tok, Out}
 use Rattle.cpt_sheet.specs.declared.data.Kind.{Kind}
 use Rattle.cpt_sheet.specs.declared.data.Kind.TheVariants.{Start, End, Act}
 use Rattle.cpt_sheet.specs.declared.data.Sheet.{Sheet}
+use Rattle.cpt_sheet.specs.declared.data.Token.{Token}
 use Rattle.cpt_sheet.specs.declared.data.Step.{Step}
 use Rattle.cpt_sheet.specs.declared.data.Step.TheVariants.{R1, R2, R3, R4, R5, R6, R7, R8, R9After, R9Ahead, R10, R11After, R11Ahead, R12After, R12Ahead, R13}
 use Rattle.cpt_sheet.specs.declared.data.Change.{Change}
@@ -18,7 +19,7 @@ use Rattle.cpt_sheet.specs.declared.data.Change.TheVariants.{Raise, Lower, Take,
 use Rattle.cpt_sheet.specs.Roles.{Adds, Deletes, Clash}
 use Rattle.cpt_sheet.specs.View.{lo, hi, span_of, kind_of, same, has, has_need, cands, before}
 use Rattle.cpt_sheet.specs.Live.{IsLive, IsOpen, IsShut}
-use Rattle.cpt_sheet.specs.Gaps.{arrival, deadline, CanPrecede, IsImpossibleBeside}
+use Rattle.cpt_sheet.specs.Gaps.{gap, arrival, deadline, CanPrecede, IsImpossibleBeside}
 use Rattle.cpt_sheet.specs.Edits.{changed}
 
 -- the list is this one token
@@ -62,10 +63,19 @@ pub record IsStep4 (t : TaskShape) (b : Tables) (s : Sheet) (x p : ℕ) (v : Spa
   pub limit : All (λ c. v ≤ˢ arrival t b s c (Tok x)) (cands s x p)
   pub moment : IsTokenMoment v
 
--- rule 5: c is a candidate for p, and cannot precede x
-pub record IsStep5 (t : TaskShape) (b : Tables) (s : Sheet) (x p : ℕ) (c : Cand) : Type 0 where
+-- c is a candidate of x for p
+pub record IsListed (s : Sheet) (x p : ℕ) (c : Cand) : Type 0 where
   pub need : has_need s x p ≡ true
   pub listed : has c (cands s x p) ≡ true
+
+-- q is another precondition of x
+pub record IsOtherNeed (s : Sheet) (x p q : ℕ) : Type 0 where
+  pub need : has_need s x q ≡ true
+  pub different : q ≢ p
+
+-- rule 5: c is a candidate for p, and cannot precede x
+pub record IsStep5 (t : TaskShape) (b : Tables) (s : Sheet) (x p : ℕ) (c : Cand) : Type 0 where
+  pub listed : IsListed s x p c
   pub late : ¬ (CanPrecede t b s c (Tok x))
 
 -- rule 6: the list is one token
@@ -75,14 +85,12 @@ pub record IsStep6 (s : Sheet) (x p : ℕ) : Type 0 where
 
 -- rule 7: the outside action is a candidate, and has no moment left
 pub record IsStep7 (s : Sheet) (x p a : ℕ) : Type 0 where
-  pub need : has_need s x p ≡ true
-  pub listed : has (Out a) (cands s x p) ≡ true
+  pub listed : IsListed s x p (Out a)
   pub shut : IsShut (span_of s (Out a))
 
 -- rule 8: c is a candidate for p; d, which is neither x nor c, deletes p, and can come neither before c nor after x
 pub record IsStep8 (t : TaskShape) (b : Tables) (s : Sheet) (x p : ℕ) (c : Cand) (d : ℕ) : Type 0 where
-  pub need : has_need s x p ≡ true
-  pub listed : has c (cands s x p) ≡ true
+  pub listed : IsListed s x p c
   pub deletes : Deletes t (kind_of s (Tok d)) p
   pub other : d ≢ x
   pub different : same (Tok d) c ≡ false
@@ -105,18 +113,25 @@ IsStep9After t b s x p d = (y : ℕ) × IsThreatOf t s x p d y × ¬ (CanPrecede
 abbrev pub IsStep9Ahead : TaskShape → Tables → Sheet → ℕ → ℕ → ℕ → Type 0
 IsStep9Ahead t b s x p d = (y : ℕ) × IsThreatOf t s x p d y × ¬ (CanPrecede t b s (Tok x) (Tok d))
 
+-- where the token adds p, v is no later than the arrival from it at the outside action a
+abbrev pub IsBeforeToken : TaskShape → Tables → ℕ → ℕ → Span → Token → Type 0
+IsBeforeToken t b a p v z = Adds t z.kind p → v ≤ˢ (z.span.lo +ˢ gap t b z.kind (Act a))
+
 -- v is no later than the arrival at the outside action a from each token that adds p
 abbrev pub IsBeforeTokens : TaskShape → Tables → Sheet → ℕ → ℕ → Span → Type 0
-IsBeforeTokens t b s a p v = (y : ℕ) → y < length s.tokens → Adds t (kind_of s (Tok y)) p → v ≤ˢ arrival t b s (Tok y) (Out a)
+IsBeforeTokens t b s a p v = All (IsBeforeToken t b a p v) s.tokens
+
+-- where the outside action o is live and adds p, v is no later than the arrival from it at the outside action a
+abbrev pub IsBeforeOut : TaskShape → Tables → Sheet → ℕ → ℕ → Span → ℕ → Type 0
+IsBeforeOut t b s a p v o = Adds t (Act o) p → IsOpen (span_of s (Out o)) → v ≤ˢ arrival t b s (Out o) (Out a)
 
 -- v is no later than the arrival at the outside action a from each live outside action that adds p, itself included
 abbrev pub IsBeforeOuts : TaskShape → Tables → Sheet → ℕ → ℕ → Span → Type 0
-IsBeforeOuts t b s a p v = (o : ℕ) → o < length t.actions → Adds t (Act o) p → IsOpen (span_of s (Out o)) → v ≤ˢ arrival t b s (Out o) (Out a)
+IsBeforeOuts t b s a p v = (o : ℕ) → o < length t.actions → IsBeforeOut t b s a p v o
 
 -- rule 10: p is a precondition of a, and v is no later than the arrival at Out a from each that adds p, so it may be
 -- Never where there is none
 pub record IsStep10 (t : TaskShape) (b : Tables) (s : Sheet) (a p : ℕ) (v : Span) : Type 0 where
-  pub there : a < length t.actions
   pub need : Contains (nth_action t a).pre p
   pub tokens : IsBeforeTokens t b s a p v
   pub outs : IsBeforeOuts t b s a p v
@@ -125,45 +140,47 @@ pub record IsStep10 (t : TaskShape) (b : Tables) (s : Sheet) (a p : ℕ) (v : Sp
 -- the list for p is one token y, and the action a deletes p
 pub record IsOutsideThreat (t : TaskShape) (s : Sheet) (x p a y : ℕ) : Type 0 where
   pub need : has_need s x p ≡ true
-  pub there : a < length t.actions
   pub one : IsToken (cands s x p) y
   pub deletes : Deletes t (Act a) p
 
--- rule 11, after: Out a cannot precede y, and v is no later than the arrival from x at Out a
-pub record IsStep11After (t : TaskShape) (b : Tables) (s : Sheet) (x p a : ℕ) (v : Span) : Type 0 where
-  pub threat : (y : ℕ) × IsOutsideThreat t s x p a y × ¬ (CanPrecede t b s (Out a) (Tok y))
+-- v is no later than the arrival from x at Out a
+pub record ComesAfter (t : TaskShape) (b : Tables) (s : Sheet) (x a : ℕ) (v : Span) : Type 0 where
   pub limit : v ≤ˢ arrival t b s (Tok x) (Out a)
   pub moment : IsOutsideMoment v
 
--- rule 11, ahead: x cannot precede Out a, and v is no earlier than the deadline of Out a before y
-pub record IsStep11Ahead (t : TaskShape) (b : Tables) (s : Sheet) (x p a : ℕ) (v : Span) : Type 0 where
-  pub threat : (y : ℕ) × IsOutsideThreat t s x p a y × (deadline t b s (Out a) (Tok y) ≤ˢ v)
-  pub late : ¬ (CanPrecede t b s (Tok x) (Out a))
+-- v is no earlier than the deadline of Out a before y
+abbrev pub ComesAhead : TaskShape → Tables → Sheet → ℕ → ℕ → Span → Type 0
+ComesAhead t b s a y v = deadline t b s (Out a) (Tok y) ≤ˢ v
 
--- rule 12, after: x is an action token that interferes with a, Out a cannot precede x, and v is no later than the
--- arrival from x at Out a
+-- rule 11, after: a deletes what y alone adds for x, Out a cannot precede y, and comes after x
+abbrev pub IsStep11After : TaskShape → Tables → Sheet → ℕ → ℕ → ℕ → Span → Type 0
+IsStep11After t b s x p a v = (y : ℕ) × IsOutsideThreat t s x p a y × ¬ (CanPrecede t b s (Out a) (Tok y)) × ComesAfter t b s x a v
+
+-- rule 11, ahead: a deletes what y alone adds for x, x cannot precede Out a, and Out a comes before y
+abbrev pub IsStep11Ahead : TaskShape → Tables → Sheet → ℕ → ℕ → ℕ → Span → Type 0
+IsStep11Ahead t b s x p a v = (y : ℕ) × IsOutsideThreat t s x p a y × ¬ (CanPrecede t b s (Tok x) (Out a)) × ComesAhead t b s a y v
+
+-- rule 12, after: x is an action token that interferes with a, Out a cannot precede x, and comes after it
 pub record IsStep12After (t : TaskShape) (b : Tables) (s : Sheet) (x a : ℕ) (v : Span) : Type 0 where
-  pub there : a < length t.actions
   pub clash : Clash t (kind_of s (Tok x)) (Act a)
   pub late : ¬ (CanPrecede t b s (Out a) (Tok x))
-  pub limit : v ≤ˢ arrival t b s (Tok x) (Out a)
-  pub moment : IsOutsideMoment v
+  pub after : ComesAfter t b s x a v
 
--- rule 12, ahead: x is an action token that interferes with a, x cannot precede Out a, and v is no earlier than the
--- deadline of Out a before x
+-- rule 12, ahead: x is an action token that interferes with a, x cannot precede Out a, which comes before it
 pub record IsStep12Ahead (t : TaskShape) (b : Tables) (s : Sheet) (x a : ℕ) (v : Span) : Type 0 where
-  pub there : a < length t.actions
   pub clash : Clash t (kind_of s (Tok x)) (Act a)
   pub late : ¬ (CanPrecede t b s (Tok x) (Out a))
-  pub limit : deadline t b s (Out a) (Tok x) ≤ˢ v
+  pub ahead : ComesAhead t b s a x v
+
+-- each candidate of x for q is impossible beside c
+pub record IsNoneBeside (t : TaskShape) (b : Tables) (s : Sheet) (x p : ℕ) (c : Cand) (q : ℕ) : Type 0 where
+  pub none : All (IsImpossibleBeside t b s p q c) (cands s x q)
 
 -- rule 13: c is a candidate for p, and each candidate for another precondition q is impossible beside it
 pub record IsStep13 (t : TaskShape) (b : Tables) (s : Sheet) (x p : ℕ) (c : Cand) (q : ℕ) : Type 0 where
-  pub need : has_need s x p ≡ true
-  pub listed : has c (cands s x p) ≡ true
-  pub second : has_need s x q ≡ true
-  pub different : q ≢ p
-  pub none : All (IsImpossibleBeside t b s p q c) (cands s x q)
+  pub listed : IsListed s x p c
+  pub second : IsOtherNeed s x p q
+  pub none : IsNoneBeside t b s x p c q
 
 -- the condition of a step, and the limit of its value
 abbrev pub Allowed : TaskShape → Tables → Sheet → Step → Type 0

@@ -1,6 +1,9 @@
 -- what a formed sheet says of its tokens
-use Rattle.std.proofs.Common.{◌≡◌, ℕ, suc, zero, ◌+◌, ◌<◌, ◌≤◌, ◌⊎◌, ◌^◌, lit≤, inl, inr, List, [], ◌∷◌, length, slice_get, unwrap_or, Some, None, refl, sym, subst, ap, ◌∙◌, arith}
+use Rattle.std.proofs.Common.{◌≡◌, ℕ, suc, zero, ◌+◌, ◌<◌, ◌≤◌, ◌⊎◌, ◌^◌, lit≤, inl, inr, List, [], ◌∷◌, length, slice_get, unwrap_or, Some, None, All, refl, sym, subst, ap, ◌∙◌, arith}
 use Rattle.std.proofs.lemmas.Bool.{cases_lt}
+use Rattle.std.proofs.lemmas.Option.{unwrap_or-slice_get}
+use Rattle.std.proofs.lemmas.List.{get_or_default}
+use Rattle.cpt_sheet.specs.declared.data.Token.{Token}
 use Rattle.cpt_task.specs.Shape.{TaskShape}
 use Rattle.cpt_task.specs.declared.span.Span.{Span}
 use Rattle.cpt_tables.specs.Spans.{IsBelow}
@@ -41,3 +44,8 @@ lo_below_more t s c h = below_more 4000000000000000 (2 ^ 63) (lo s c) (lit≤ tt
 
 pub gap_below_more : (g : Span) → IsBelow 2000000000000000 g → IsBelow (2 ^ 63) g
 gap_below_more g h = below_more 2000000000000000 (2 ^ 63) g (lit≤ tt) h
+
+-- no token begins so late that a sum with a gap does not fit
+pub tokens_small : (t : TaskShape) (s : Sheet) → IsFormed t s → All (λ (z : Token). IsBelow (2 ^ 63) z.span.lo) s.tokens
+tokens_small t s h k d lt =
+    subst (λ (z : Token). IsBelow (2 ^ 63) z.span.lo) (unwrap_or-slice_get s.tokens k no_token ∙ get_or_default s.tokens k no_token d lt) (lo_below_more t s (Tok k) h)

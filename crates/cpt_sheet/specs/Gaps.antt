@@ -1,4 +1,4 @@
-use Rattle.std.specs.Prelude.{◌≡◌, ℕ, ◌-◌, ◌⊎◌, Bool, true, false, List, [], ◌∷◌}
+use Rattle.std.specs.Prelude.{◌≡◌, ℕ, ◌-◌, ◌⊎◌, nat_lt, length, if◌then◌else◌, Bool, true, false, List, [], ◌∷◌}
 use Rattle.cpt_task.specs.declared.span.Span.{Span}
 use Rattle.cpt_task.specs.declared.span.Span.TheVariants.{At, Never}
 use Rattle.cpt_task.specs.Shape.{TaskShape}
@@ -19,11 +19,12 @@ pub record FitsTask (t : TaskShape) (tables : Tables) : Type 0 where
   pub pairs : FitsPairs t tables.pairs
   pub dists : FitsDists t tables.dists
 
--- how long after the beginning of the first these atoms may all hold, where the first comes before
+-- how long after the beginning of the first these atoms may all hold, where the first comes before: Never after the
+-- end and after an action that is not there
 abbrev pub reach : TaskShape → Tables → Kind → List ℕ → Span
 reach t b Start ps = set_span_of b.pairs ps
 reach t b End ps = Never
-reach t b (Act a) ps = At (nth_action t a).dur +ˢ most_dist b.dists a ps
+reach t b (Act a) ps = if nat_lt a (length t.actions) then At (nth_action t a).dur +ˢ most_dist b.dists a ps else Never
 
 -- how long after the beginning of the first the second may begin, where the first comes before it: Never where the
 -- first is the end or the second is the start

@@ -31,9 +31,19 @@ Adds t k p = Contains (adds_of t k) p
 abbrev pub Deletes : TaskShape → Kind → ℕ → Type 0
 Deletes t k p = Contains (deletes_of t k) p
 
--- both are actions, and they interfere
+-- one of the actions deletes an atom that the other needs or adds
+pub record Interfere (t : TaskShape) (a b : ℕ) : Type 0 where
+  pub interfere : Interferes (nth_action t a) (nth_action t b)
+
+-- both are actions of the task, and they interfere
+pub record ActionsClash (t : TaskShape) (a b : ℕ) : Type 0 where
+  pub first : a < length t.actions
+  pub second : b < length t.actions
+  pub interfere : Interfere t a b
+
+-- both are actions of the task, and they interfere
 abbrev pub Clash : TaskShape → Kind → Kind → Type 0
-Clash t (Act a) (Act b) = Interferes (nth_action t a) (nth_action t b)
+Clash t (Act a) (Act b) = ActionsClash t a b
 Clash t (Act a) Start = ⊥
 Clash t (Act a) End = ⊥
 Clash t Start k = ⊥

@@ -51,9 +51,21 @@ fn reach_from_start(task: &Task, tables: &Tables, atoms: &[u32]) -> Span
     set_span(&tables.pairs, atoms)
 }
 
+fn reach_from_action(task: &Task, tables: &Tables, act: u32, atoms: &[u32]) -> Span
+    requires tables { FitsTask task.now tables.now }
+    requires atoms { All (λ p. p < length task.now.atoms) atoms.now }
+    ensures value { result ≡ reach task.now tables.now (Kind.Act act) atoms.now }
+    ensures small { IsBelow 2000000000000000 result }
+{
+    if (act as usize) < task.actions().len() {
+        reach_after(task, tables, act, atoms)
+    } else {
+        Span::Never
+    }
+}
+
 fn reach_of(task: &Task, tables: &Tables, first: Kind, atoms: &[u32]) -> Span
     requires tables { FitsTask task.now tables.now }
-    requires first { IsKindOf task.now first }
     requires atoms { All (λ p. p < length task.now.atoms) atoms.now }
     ensures value { result ≡ reach task.now tables.now first atoms.now }
     ensures small { IsBelow 2000000000000000 result }
@@ -61,14 +73,13 @@ fn reach_of(task: &Task, tables: &Tables, first: Kind, atoms: &[u32]) -> Span
     match first {
         Kind::Start => reach_from_start(task, tables, atoms),
         Kind::End => Span::Never,
-        Kind::Act(a) => reach_after(task, tables, a, atoms),
+        Kind::Act(a) => reach_from_action(task, tables, a, atoms),
     }
 }
 
 /// How long after the beginning of the first the second may begin, where the first comes before it.
 pub fn gap(task: &Task, tables: &Tables, first: Kind, second: Kind) -> Span
     requires tables { FitsTask task.now tables.now }
-    requires first { IsKindOf task.now first }
     ensures value { result ≡ gap task.now tables.now first second }
     ensures small { IsBelow 2000000000000000 result }
 {
@@ -85,7 +96,6 @@ pub fn gap(task: &Task, tables: &Tables, first: Kind, second: Kind) -> Span
 pub fn arrives(task: &Task, tables: &Tables, sheet: &Sheet, c: Cand, d: Cand) -> Span
     requires tables { FitsTask task.now tables.now }
     requires formed { IsFormed task.now sheet.now }
-    requires first { IsKindOf task.now (kind_of sheet.now c) }
     ensures { result ≡ arrival task.now tables.now sheet.now c d }
 {
     let apart = gap(task, tables, kind(sheet, c), kind(sheet, d));
@@ -104,7 +114,6 @@ fn back_by(moment: u64, gap: Span) -> u64
 /// The last moment at which the first may begin, where it comes before the second.
 pub fn must_begin_by(task: &Task, tables: &Tables, sheet: &Sheet, c: Cand, d: Cand) -> Span
     requires tables { FitsTask task.now tables.now }
-    requires first { IsKindOf task.now (kind_of sheet.now c) }
     ensures { result ≡ deadline task.now tables.now sheet.now c d }
 {
     let apart = gap(task, tables, kind(sheet, c), kind(sheet, d));
@@ -121,7 +130,6 @@ fn is_late(arrival: Span, span: Interval) -> bool
 pub fn can_precede(task: &Task, tables: &Tables, sheet: &Sheet, c: Cand, d: Cand) -> bool
     requires tables { FitsTask task.now tables.now }
     requires formed { IsFormed task.now sheet.now }
-    requires first { IsKindOf task.now (kind_of sheet.now c) }
     ensures { MatchBool result (CanPrecede task.now tables.now sheet.now c d) (CanPrecede task.now tables.now sheet.now c d → ⊥) }
 {
     !is_late(arrives(task, tables, sheet, c, d), span(sheet, d)) && !is_ordered(sheet, d, c)
@@ -130,8 +138,6 @@ pub fn can_precede(task: &Task, tables: &Tables, sheet: &Sheet, c: Cand, d: Cand
 fn is_stuck(task: &Task, tables: &Tables, sheet: &Sheet, c: Cand, d: Cand) -> bool
     requires tables { FitsTask task.now tables.now }
     requires formed { IsFormed task.now sheet.now }
-    requires first { IsKindOf task.now (kind_of sheet.now c) }
-    requires second { IsKindOf task.now (kind_of sheet.now d) }
     ensures { MatchBool result (IsStuck task.now tables.now sheet.now c d) (IsStuck task.now tables.now sheet.now c d → ⊥) }
 {
     clash(task, kind(sheet, c), kind(sheet, d))
@@ -148,8 +154,6 @@ fn delete_each_other(task: &Task, sheet: &Sheet, p: u32, q: u32, c: Cand, d: Can
 fn exclude(task: &Task, tables: &Tables, sheet: &Sheet, p: u32, q: u32, c: Cand, d: Cand) -> bool
     requires tables { FitsTask task.now tables.now }
     requires formed { IsFormed task.now sheet.now }
-    requires first { IsKindOf task.now (kind_of sheet.now c) }
-    requires second { IsKindOf task.now (kind_of sheet.now d) }
     ensures { MatchBool result (Exclude task.now tables.now sheet.now p q c d) (Exclude task.now tables.now sheet.now p q c d → ⊥) }
 {
     is_stuck(task, tables, sheet, c, d) || delete_each_other(task, sheet, p, q, c, d)
@@ -167,8 +171,6 @@ pub fn is_impossible_beside(
 ) -> bool
     requires tables { FitsTask task.now tables.now }
     requires formed { IsFormed task.now sheet.now }
-    requires first { IsKindOf task.now (kind_of sheet.now c) }
-    requires second { IsKindOf task.now (kind_of sheet.now d) }
     ensures { MatchBool result (IsImpossibleBeside task.now tables.now sheet.now p q c d) (IsImpossibleBeside task.now tables.now sheet.now p q c d → ⊥) }
 {
     !is_same(d, c) && exclude(task, tables, sheet, p, q, c, d)

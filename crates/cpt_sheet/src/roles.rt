@@ -2,9 +2,8 @@
 
 ghost use Rattle.std.specs.Prelude.{◌≡◌, ◌<◌, ◌≤◌, IsTrue, MatchBool, All, length};
 ghost use Rattle.cpt_task.specs.Shape.{InBounds};
-ghost use Rattle.cpt_task.specs.Interference.{Interferes};
 ghost use Rattle.cpt_tables.specs.Admissible.{nth_action};
-ghost use Rattle.cpt_sheet.specs.Roles.{needs_of, adds_of, deletes_of, Adds, Deletes, Clash, IsKindOf};
+ghost use Rattle.cpt_sheet.specs.Roles.{needs_of, adds_of, deletes_of, Adds, Deletes, Clash, Interfere, ActionsClash, IsKindOf};
 
 use crate::data::Kind;
 use cpt_task::{Action, Task, interfere};
@@ -80,19 +79,36 @@ pub fn action_at(task: &Task, act: u32) -> &Action
 fn actions_clash(task: &Task, a: u32, b: u32) -> bool
     requires first { a < length task.now.actions }
     requires second { b < length task.now.actions }
-    ensures { MatchBool result (Interferes (nth_action task.now a) (nth_action task.now b)) (Interferes (nth_action task.now a) (nth_action task.now b) → ⊥) }
+    ensures { MatchBool result (Interfere task.now a b) (Interfere task.now a b → ⊥) }
 {
     interfere(action_at(task, a), action_at(task, b))
 }
 
-/// Whether both are actions that interfere.
+/// Whether the action is there.
+pub fn is_action(task: &Task, act: u32) -> bool
+    ensures { MatchBool result (act < length task.now.actions) (act < length task.now.actions → ⊥) }
+{
+    (act as usize) < task.actions().len()
+}
+
+fn action_clashes(task: &Task, a: u32, b: u32) -> bool
+    ensures { MatchBool result (ActionsClash task.now a b) (ActionsClash task.now a b → ⊥) }
+{
+    if !is_action(task, a) {
+        return false;
+    }
+    if !is_action(task, b) {
+        return false;
+    }
+    actions_clash(task, a, b)
+}
+
+/// Whether both are actions of the task that interfere.
 pub fn clash(task: &Task, first: Kind, second: Kind) -> bool
-    requires first { IsKindOf task.now first }
-    requires second { IsKindOf task.now second }
     ensures { MatchBool result (Clash task.now first second) (Clash task.now first second → ⊥) }
 {
     match (first, second) {
-        (Kind::Act(a), Kind::Act(b)) => actions_clash(task, a, b),
+        (Kind::Act(a), Kind::Act(b)) => action_clashes(task, a, b),
         _ => false,
     }
 }
