@@ -1,0 +1,4 @@
+pub mod Inserts
+pub mod Parts
+pub mod Takes
+pub mod Zips

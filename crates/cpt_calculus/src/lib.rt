@@ -1,9 +1,18 @@
 //! The calculus of partial plans: thirteen rules that narrow sheets, decisions, and flaws.
 #![tactic(auto)]
 
+mod build;
+mod copies;
+mod decisions;
+mod flaws;
+mod narrowing;
 mod rules;
 
-pub use rules::{change, legal};
+pub use copies::copy_sheet;
+pub use decisions::fits;
+pub use flaws::{flaw_children, is_flaw};
+pub use narrowing::narrow;
+pub use rules::legal;
 pub use cpt_sheet::{
     Cand, Change, Decision, Flaw, Interval, Kind, Need, NodeLine, Sheet, Step, Token, Tree, is_dead,
 };
