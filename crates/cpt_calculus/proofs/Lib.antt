@@ -1,3 +1,4 @@
+pub mod Behind
 pub mod Inserts
 pub mod Parts
 pub mod Takes

@@ -47,7 +47,7 @@ fn lower_to(sheet: &mut Sheet, at: Cand, to: u64)
     }
 }
 
-fn is_for(needs: &[Need], i: usize, atom: u32) -> bool
+pub(crate) fn is_for(needs: &[Need], i: usize, atom: u32) -> bool
     requires { i < length needs.now }
     ensures { result ≡ ((unwrap_or (slice_get needs.now i) no_need).atom == atom) }
 {
