@@ -3,6 +3,7 @@
 ghost use Rattle.std.specs.Prelude.{◌≡◌, ◌<◌, ◌≤◌, ◌==◌, length, slice_get, unwrap_or, insert, IsSomeAnd, OnOk, OnErr};
 ghost use Rattle.cpt_sheet.specs.Edits.{changed, with_span, without, revised, moment_or, with_order, posted};
 ghost use Rattle.cpt_sheet.specs.View.{span_of, hi, same, no_need, pair_lt};
+ghost use Rattle.cpt_calculus.specs.Closing.{StaysFormed};
 ghost use Rattle.cpt_calculus.specs.Rules.{narrowed};
 
 use crate::rules::change;
@@ -149,6 +150,7 @@ fn make(sheet: &mut Sheet, change: Change) -> Result<(), Memory>
 /// Makes the change of a step. Only an order may take memory; after `Memory` the sheet is unchanged.
 pub fn narrow(sheet: &mut Sheet, step: &Step) -> Result<(), Memory>
     ensures ok { OnOk result (sheet.new ≡ narrowed sheet.old step.now) }
+    ensures formed { OnOk result (StaysFormed sheet.old step.now sheet.new) }
     ensures err { OnErr result (sheet.new ≡ sheet.old) }
 {
     let change = change(sheet, *step);
