@@ -1,4 +1,5 @@
 pub mod Adders
+pub mod ApplyFormed
 pub mod Behind
 pub mod Below
 pub mod Confluence

@@ -1,6 +1,7 @@
 //! How a decision changes a sheet.
 
 ghost use Rattle.std.specs.Prelude.{◌≡◌, ℕ, ◌<◌, ◌≤◌, ◌-◌, ◌^◌, ◌++◌, ◌∷◌, [], map, insert, length, slice_get, slice_set, unwrap_or, IfOk, OnOk, OnErr};
+ghost use Rattle.cpt_sheet.specs.Formed.{IsFormed};
 ghost use Rattle.cpt_sheet.specs.Edits.{revised, posted};
 ghost use Rattle.cpt_sheet.specs.View.{no_token, has};
 ghost use Rattle.cpt_calculus.specs.Decisions.{Fits, applied, brought, behind_tokens, beside, offer, offered, joined};
@@ -185,10 +186,8 @@ fn bring(task: &Task, sheet: &mut Sheet, x: u32, p: u32, act: u32) -> Result<(),
     Ok(())
 }
 
-/// Makes the change of a decision. After `Memory` the sheet is unchanged.
-pub fn apply(task: &Task, sheet: &mut Sheet, decision: &Decision) -> Result<(), Memory>
-    requires fits { Fits sheet.old decision.now }
-    requires few { length sheet.old.tokens < 2 ^ 32 - 1 }
+fn decide(task: &Task, sheet: &mut Sheet, decision: &Decision) -> Result<(), Memory>
+    requires { length sheet.old.tokens < 2 ^ 32 - 1 }
     ensures ok { OnOk result (sheet.new ≡ applied task.now sheet.old decision.now) }
     ensures err { OnErr result (sheet.new ≡ sheet.old) }
 {
@@ -201,4 +200,15 @@ pub fn apply(task: &Task, sheet: &mut Sheet, decision: &Decision) -> Result<(), 
         Decision::Bring { tok, pre, act } => bring(task, sheet, tok, pre, act),
         Decision::Before { first, second } => post(&mut sheet.orders, first, second),
     }
+}
+
+/// Makes the change of a decision. After `Memory` the sheet is unchanged.
+pub fn apply(task: &Task, sheet: &mut Sheet, decision: &Decision) -> Result<(), Memory>
+    requires fits { Fits sheet.old decision.now }
+    requires few { length sheet.old.tokens < 2 ^ 32 - 1 }
+    ensures ok { OnOk result (sheet.new ≡ applied task.now sheet.old decision.now) }
+    ensures formed { OnOk result (IsFormed task.now sheet.old → IsFormed task.now sheet.new) }
+    ensures err { OnErr result (sheet.new ≡ sheet.old) }
+{
+    decide(task, sheet, decision)
 }
