@@ -49,27 +49,22 @@ fn zeros(alloc: Global, task: &Task) -> Option<Tables>
     Some(Tables { pairs, dists })
 }
 
-// What is legal at the root of bound 2.
-fn legal_at_root(alloc: Global) -> Option<(bool, bool, bool, bool)> {
+// Whether the step is legal at the root of bound 2.
+fn legal_at_root(alloc: Global, step: Step) -> Option<bool> {
     let task = sample(alloc)?;
     let tables = zeros(alloc, &task)?;
-    let mut sheet = root(alloc, &task, &tables, 2).ok()?;
-    let raise = |to| Step::R4 { tok: 1, pre: 1, to };
-    let early = legal(&task, &tables, &sheet, &raise(Span::At(2)));
-    let late = legal(&task, &tables, &sheet, &raise(Span::At(3)));
-    let again = copy_sheet(alloc, &sheet).ok()?;
-    narrow(&mut sheet, &raise(Span::At(2))).ok()?;
-    let still = legal(
-        &task,
-        &tables,
-        &again,
-        &Step::R10 {
-            act: 1,
-            pre: 0,
-            to: Span::At(1),
-        },
-    );
-    Some((early, late, still, is_dead(&sheet)))
+    let sheet = root(alloc, &task, &tables, 2).ok()?;
+    Some(legal(&task, &tables, &sheet, &step))
+}
+
+// Whether a copy of the root of bound 2 is dead after the step.
+fn dies(alloc: Global, step: Step) -> Option<bool> {
+    let task = sample(alloc)?;
+    let tables = zeros(alloc, &task)?;
+    let sheet = root(alloc, &task, &tables, 2).ok()?;
+    let mut copy = copy_sheet(alloc, &sheet).ok()?;
+    narrow(&mut copy, &step).ok()?;
+    Some(is_dead(&copy))
 }
 
 // The open need of the end at bound 2: its children, and what comes of the first.
@@ -95,7 +90,14 @@ fn branch(alloc: Global) -> Option<(bool, Vec<Decision>, bool, u64)> {
 
 #[test]
 fn key_comes_before_the_goal(rt: HostRuntime) {
-    assert_eq!(rt; legal_at_root(rt.alloc()), Some((true, false, true, false)));
+    let raise = |to| Step::R4 {
+        tok: 1,
+        pre: 1,
+        to: Span::At(to),
+    };
+    assert_eq!(rt; legal_at_root(rt.alloc(), raise(2)), Some(true));
+    assert_eq!(rt; legal_at_root(rt.alloc(), raise(3)), Some(false));
+    assert_eq!(rt; dies(rt.alloc(), raise(2)), Some(false));
     let wanted = Decision::Bring {
         tok: 1,
         pre: 1,
