@@ -1,0 +1,16 @@
+pub mod Adders
+pub mod ApplyFormed
+pub mod Behind
+pub mod Below
+pub mod Confluence
+pub mod Inserts
+pub mod Keeps
+pub mod Monotone
+pub mod Orders
+pub mod Parts
+pub mod RootFormed
+pub mod Snocs
+pub mod Stays
+pub mod Takes
+pub mod Views
+pub mod Zips

@@ -1,0 +1,4 @@
+pub mod FormedLemmas
+pub mod GapLemmas
+pub mod Tests
+pub mod EachLemmas
