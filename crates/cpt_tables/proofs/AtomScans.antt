@@ -7,7 +7,7 @@ use Rattle.cpt_task.specs.declared.task.Action.{Action}
 use Rattle.cpt_task.specs.Shape.{TaskShape}
 use Rattle.cpt_tables.specs.Spans.{◌≤ˢ◌, ◌<ˢ◌}
 use Rattle.cpt_tables.specs.Shapes.{PairShape, DistShape, dist_at, FitsPairs, FitsDists}
-use Rattle.cpt_tables.specs.Admissible.{IsAtOnce, IsDistLimit, IsLimitAfter, IsLeast, IsDistFault, ComesBefore, nth_action}
+use Rattle.cpt_tables.specs.Admissible.{IsAtOnce, IsDistLimit, IsLimitAfter, IsLeast, IsAdmissibleDists, IsDistFault, ComesBefore, nth_action}
 use Rattle.cpt_tables.specs.Admissible.IsDistLimit.{at_once, later}
 use Rattle.cpt_tables.specs.Scans.{ReachesAtom, ScansAtoms, IsLate, IsZeroHere, IsAfterHere, IsOfDist, IsFineBefore, Lessens}
 use Rattle.cpt_tables.proofs.SpanLemmas.{le_cases, le_lt, zero_le}
@@ -96,6 +96,9 @@ fine_more t h d n before here a p la lp v m = go (cases_lt a n)
     go (inr le) =
         let e : a ≡ n = omega arith in
         subst (λ b. dist_at d b p ≤ˢ v) (sym e) (here p lp v (subst (λ b. IsDistLimit t h d b p v) e m))
+
+pub fine_all : (t : TaskShape) (h : PairShape) (d : DistShape) (n : ℕ) → length t.actions ≤ n → IsFineBefore t h d n → IsAdmissibleDists t h d
+fine_all t h d n le before a p la lp v m = before a p (omega arith) lp v m
 
 -- the atoms that a search found are atoms
 pub atom_below : (t : TaskShape) (h : PairShape) (d : DistShape) (a p : ℕ) → FitsPairs t h → FitsDists t d → ((c : ℕ) → c < length t.actions → (r : ℕ) → Contains (nth_action t c).add r → r < length t.atoms) → ScansAtoms d a (IsOfDist t h d a) None (Some p) → p < d.atoms

@@ -7,7 +7,7 @@ use Rattle.cpt_task.specs.declared.task.Action.{Action}
 use Rattle.cpt_tables.specs.Spans.{◌≤ˢ◌, ◌+ˢ◌, span_max, IsBelow}
 use Rattle.cpt_tables.specs.Shapes.{PairShape, DistShape, most_with, most_across, set_span_of, most_dist, pair_at, dist_at, IsSmallPairs, IsSmallDists}
 use Rattle.cpt_tables.specs.Admissible.{limit_by_one, limit_by_two}
-use Rattle.cpt_tables.specs.Scans.{IsServed}
+use Rattle.cpt_tables.specs.Serving.{IsServed}
 use Rattle.cpt_tables.proofs.SpanLemmas.{le_trans, le_antisym, max_left, max_right, max_le, max_assoc, max_comm, max_zero, below_max}
 use Rattle.cpt_tables.proofs.MostLemmas.{le_over, over_le, below_over}
 use Rattle.cpt_tables.proofs.PlaceLemmas.{pair_exchanged}

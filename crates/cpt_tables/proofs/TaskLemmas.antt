@@ -5,7 +5,7 @@ use Rattle.cpt_task.specs.Shape.{TaskShape, InBounds, HasAtomsBelow}
 use Rattle.cpt_task.specs.Timeline.{idle}
 use Rattle.cpt_tables.specs.Shapes.{PairShape, FitsPairs}
 use Rattle.cpt_tables.specs.Admissible.{nth_action}
-use Rattle.cpt_tables.specs.Scans.{IsServed}
+use Rattle.cpt_tables.specs.Serving.{IsServed}
 
 pub nth_served : (t : TaskShape) (h : PairShape) (a : ℕ) → InBounds t → FitsPairs t h → a < length t.actions → IsServed h (nth_action t a)
 nth_served t h a b f la = record {

@@ -2,17 +2,12 @@ use Rattle.std.specs.Prelude.{◌≡◌, ℕ, ◌<◌, ◌≤◌, ◌⊎◌, max
 use Rattle.cpt_task.specs.declared.span.Span.{Span}
 use Rattle.cpt_task.specs.declared.span.Span.TheVariants.{At}
 use Rattle.cpt_task.specs.declared.task.Action.{Action}
-use Rattle.cpt_task.specs.Shape.{TaskShape, HasAtomsBelow, IsDuration}
+use Rattle.cpt_task.specs.Shape.{TaskShape}
 use Rattle.cpt_task.specs.Interference.{Interferes}
 use Rattle.cpt_tables.specs.Spans.{◌≤ˢ◌, ◌<ˢ◌}
 use Rattle.cpt_tables.specs.Shapes.{PairShape, DistShape, pair_at, dist_at}
 use Rattle.cpt_tables.specs.Admissible.{Leaves, IsAtOnce, IsDistLimit, limit_after, limit_by_one, limit_beside, limit_by_two, nth_action}
 use Rattle.cpt_tables.specs.declared.search.Pair.{Pair}
-
--- the action's atoms are atoms of the table, and its duration is in range
-pub record IsServed (h : PairShape) (c : Action) : Type 0 where
-  pub atoms : HasAtomsBelow h.atoms c
-  pub duration : IsDuration c.dur
 
 -- the two atoms, the lesser first
 abbrev pub sorted : ℕ → ℕ → Pair
@@ -125,10 +120,6 @@ IsPartnerHere t h i p q v = (j : ℕ) × (j < length t.actions) × IsTwoHere h (
 abbrev pub IsActionHere : TaskShape → PairShape → ℕ → ℕ → ℕ → Span → Type 0
 IsActionHere t h i p q v =
     ((IsOneHere h (nth_action t i) p q v ⊎ IsBesideHere h (nth_action t i) p q v) ⊎ IsBesideHere h (nth_action t i) q p v) ⊎ IsPartnerHere t h i p q v
-
--- the action's atoms are atoms of the table, and its duration is in range
-abbrev pub IsReached : DistShape → Action → Type 0
-IsReached d c = HasAtomsBelow d.atoms c × IsDuration c.dur
 
 -- the first of what has been found and the atom
 pub record IsEarlierAtom (old : Option ℕ) (p new : ℕ) : Type 0 where

@@ -1,7 +1,8 @@
 //! Tables over actions and atoms.
 
 ghost use Rattle.std.specs.Prelude.{◌≡◌, ◌+◌, ◌*◌, ◌<◌, ◌≤◌, IfOk};
-ghost use Rattle.cpt_tables.specs.Shapes.{dist_at, dists_of, with_dist, SetsDist, IsFilledDists};
+ghost use Rattle.cpt_tables.specs.Spans.{IsBelow};
+ghost use Rattle.cpt_tables.specs.Shapes.{dist_at, dists_of, with_dist, SetsDist, IsFilledDists, IsSmallDists};
 
 use cpt_task::{Memory, Span};
 use std::alloc::Global;
@@ -33,6 +34,7 @@ impl DistTable {
         requires atoms { atoms ≤ 2048 }
         ensures table { IfOk result (λ table. table ≡ dists_of actions atoms value) }
         ensures filled { IfOk result (λ table. IsFilledDists table value) }
+        ensures small { IfOk result (λ table. IsBelow 1000000000000000 value → IsSmallDists table) }
     {
         let mut values = Vec::new(alloc);
         values.resize(actions as usize * atoms as usize, value)?;
@@ -82,6 +84,7 @@ impl DistTable {
         requires atom { atom < self.old.atoms }
         ensures sets { SetsDist self.old self.new act atom value }
         ensures table { self.new ≡ with_dist self.old act atom value }
+        ensures small { IsSmallDists self.old → IsBelow 1000000000000000 value → IsSmallDists self.new }
     {
         let place = self.place_of(act, atom);
         self.values[place] = value;

@@ -1,11 +1,13 @@
 //! Whether a distance table is admissible.
 
-ghost use Rattle.std.specs.Prelude.{◌≡◌, ◌<◌, ℕ, length, All, MatchBool, MatchOption, None};
+ghost use Rattle.std.specs.Prelude.{◌≡◌, ◌<◌, ℕ, length, All, MatchBool, MatchOption, IfNone, None};
 ghost use Rattle.cpt_task.specs.Shape.{InBounds};
 ghost use Rattle.cpt_tables.specs.Spans.{◌≤ˢ◌, ◌+ˢ◌, IsFinite};
 ghost use Rattle.cpt_tables.specs.Shapes.{FitsPairs, FitsDists, IsSmallDists, most_dist, dist_at, pair_at};
-ghost use Rattle.cpt_tables.specs.Admissible.{nth_action, IsAtOnce, Stays, CanHoldWith, IsDistLimit, IsLimitAfter, IsLeast, IsAdmissibleDists, IsDistFault, limit_after};
-ghost use Rattle.cpt_tables.specs.Scans.{IsServed, IsReached, IsEarlierAtom, IsLate, IsFineBefore, ScansAtoms, IsZeroHere, IsAfterHere, IsOfDist, IsAtomOne, IsAtomAmong, Lessens};
+ghost use Rattle.cpt_tables.specs.Admissible.{nth_action, IsAtOnce, Stays, CanHoldWith, IsDistLimit, IsLimitAfter, IsLeast, IsAdmissiblePairs, IsAdmissibleDists, IsDistFault, limit_after};
+ghost use Rattle.cpt_tables.specs.Bounds.{BoundsDists};
+ghost use Rattle.cpt_tables.specs.Scans.{IsEarlierAtom, IsLate, IsFineBefore, ScansAtoms, IsZeroHere, IsAfterHere, IsOfDist, IsAtomOne, IsAtomAmong, Lessens};
+ghost use Rattle.cpt_tables.specs.Serving.{IsServed, IsReached};
 
 use crate::dist_table::DistTable;
 use crate::faults::DistFault;
@@ -45,7 +47,8 @@ fn stays(pairs: &PairTable, a: &Action, p: u32) -> bool
     !has(&a.dele, p) && can_hold_with(pairs, p, a.add.as_slice())
 }
 
-fn is_at_once(pairs: &PairTable, a: &Action, p: u32) -> bool
+/// Whether the distance of the action to the atom is to be 0.
+pub fn is_at_once(pairs: &PairTable, a: &Action, p: u32) -> bool
     requires served { IsServed pairs.now a.now }
     requires atom { p < pairs.now.atoms }
     ensures { MatchBool result (IsAtOnce pairs.now a.now p) (IsAtOnce pairs.now a.now p → ⊥) }
@@ -53,8 +56,8 @@ fn is_at_once(pairs: &PairTable, a: &Action, p: u32) -> bool
     has(&a.add, p) || stays(pairs, a, p)
 }
 
-/// The right side that action `c` gives the distance of action `act` to an atom that it adds.
-fn limit_after(dists: &DistTable, act: u32, c: &Action) -> Span
+/// The right side that action `c` gives the distance of action `act` to an atom that `c` adds.
+pub fn limit_after(dists: &DistTable, act: u32, c: &Action) -> Span
     requires small { IsSmallDists dists.now }
     requires act { act < dists.now.actions }
     requires reached { IsReached dists.now c.now }
@@ -193,9 +196,12 @@ fn least_distance(task: &Task, pairs: &PairTable, dists: &DistTable, act: u32, p
 pub fn admissible_dists(task: &Task, pairs: &PairTable, dists: &DistTable) -> Option<DistFault>
     requires pairs { FitsPairs task.now pairs.now }
     requires dists { FitsDists task.now dists.now }
-    ensures { MatchOption result (IsAdmissibleDists task.now pairs.now dists.now) (IsDistFault task.now pairs.now dists.now) }
+    ensures answer { MatchOption result (IsAdmissibleDists task.now pairs.now dists.now) (IsDistFault task.now pairs.now dists.now) }
+    // A table that is admissible over an admissible pair table bounds the moments of plans.
+    ensures bounds { IfNone result (IsAdmissiblePairs task.now pairs.now → BoundsDists task.now dists.now) }
 {
-    for act in 0..dists.actions() {
+    let count = task.actions().len() as u32;
+    for act in 0..count {
         if let Some(atom) = first_atom(task, pairs, dists, act) {
             return Some(DistFault {
                 act,

@@ -3,7 +3,8 @@
 ghost use Rattle.std.specs.Prelude.{◌≡◌, ◌<◌, length, Contains, MatchBool};
 ghost use Rattle.cpt_tables.specs.Shapes.{FitsPairs, IsSmallPairs};
 ghost use Rattle.cpt_tables.specs.Admissible.{nth_action, IsPairLimit, IsLeast, IsLimitAtStart};
-ghost use Rattle.cpt_tables.specs.Scans.{Lessens, IsServed, IsOneHere, IsBesideHere, AddBoth, AddApart, IsTwoHere, IsPartnerHere, IsActionHere};
+ghost use Rattle.cpt_tables.specs.Scans.{Lessens, IsOneHere, IsBesideHere, AddBoth, AddApart, IsTwoHere, IsPartnerHere, IsActionHere};
+ghost use Rattle.cpt_tables.specs.Serving.{IsServed};
 
 use crate::limits::{has, leaves, limit_of_one, limit_of_two, limit_with, served_action};
 use crate::pair_table::PairTable;

@@ -4,6 +4,7 @@
 mod dist_table;
 mod dists;
 mod faults;
+mod laws;
 mod least;
 mod limits;
 mod pair_table;
@@ -12,12 +13,16 @@ mod search;
 mod sets;
 mod spans;
 mod tables;
+#[cfg(test)]
+mod tests;
 
 pub use dist_table::DistTable;
-pub use dists::admissible_dists;
+pub use dists::{admissible_dists, is_at_once, limit_after};
 pub use faults::{DistFault, PairFault};
+pub use laws::{dists_bound, pairs_bound};
+pub use limits::{has, leaves, limit_of_one, limit_of_two, limit_with, served_action};
 pub use pair_table::PairTable;
 pub use pairs::admissible_pairs;
-pub use sets::set_span;
+pub use sets::{dist_to, set_span, span_across, span_with};
 pub use spans::{add_spans, exceeds, greater_span, lesser_span};
 pub use tables::Tables;

@@ -5,7 +5,7 @@ ghost use Rattle.cpt_task.specs.Shape.{IsDuration};
 ghost use Rattle.cpt_tables.specs.Spans.{◌+ˢ◌, IsBelow};
 ghost use Rattle.cpt_tables.specs.Shapes.{FitsPairs, IsSmallPairs, set_span_of};
 ghost use Rattle.cpt_tables.specs.Admissible.{nth_action, limit_by_one, limit_beside, limit_by_two, Leaves};
-ghost use Rattle.cpt_tables.specs.Scans.{IsServed};
+ghost use Rattle.cpt_tables.specs.Serving.{IsServed};
 
 use crate::pair_table::PairTable;
 use crate::sets::{set_span, span_across, span_with};

@@ -1,7 +1,8 @@
 //! Tables over pairs of atoms.
 
 ghost use Rattle.std.specs.Prelude.{◌≡◌, ◌<◌, ◌≤◌, IfOk};
-ghost use Rattle.cpt_tables.specs.Shapes.{pair_at, pair_place, pairs_of, with_pair, SetsPair, IsFilledPairs};
+ghost use Rattle.cpt_tables.specs.Spans.{IsBelow};
+ghost use Rattle.cpt_tables.specs.Shapes.{pair_at, pair_place, pairs_of, with_pair, SetsPair, IsFilledPairs, IsSmallPairs};
 
 use cpt_task::{Memory, Span};
 use std::alloc::Global;
@@ -41,6 +42,7 @@ impl PairTable {
         requires { n ≤ 2048 }
         ensures table { IfOk result (λ table. table ≡ pairs_of n value) }
         ensures filled { IfOk result (λ table. IsFilledPairs table value) }
+        ensures small { IfOk result (λ table. IsBelow 1000000000000000 value → IsSmallPairs table) }
     {
         let rows = n as usize;
         let mut values = Vec::new(alloc);
@@ -71,6 +73,7 @@ impl PairTable {
         requires second { q < self.old.atoms }
         ensures sets { SetsPair self.old self.new p q value }
         ensures table { self.new ≡ with_pair self.old p q value }
+        ensures small { IsSmallPairs self.old → IsBelow 1000000000000000 value → IsSmallPairs self.new }
     {
         self.values[place_of(p, q)] = value;
     }

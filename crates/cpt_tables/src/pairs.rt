@@ -1,10 +1,12 @@
 //! Whether a pair table is admissible.
 
-ghost use Rattle.std.specs.Prelude.{◌≡◌, ◌<◌, length, MatchOption, None};
+ghost use Rattle.std.specs.Prelude.{◌≡◌, ◌<◌, length, MatchOption, IfNone, None};
 ghost use Rattle.cpt_task.specs.Shape.{InBounds};
 ghost use Rattle.cpt_tables.specs.Shapes.{FitsPairs, IsSmallPairs, set_span_of};
 ghost use Rattle.cpt_tables.specs.Admissible.{IsAdmissiblePairs, IsPairFault};
-ghost use Rattle.cpt_tables.specs.Scans.{ScansPairs, IsServed, IsAmongBoth, IsBesideOne, IsBesideAny, IsOfTwo, IsOfPartner, IsOfAction, IsOfTask};
+ghost use Rattle.cpt_tables.specs.Bounds.{BoundsPairs};
+ghost use Rattle.cpt_tables.specs.Scans.{ScansPairs, IsAmongBoth, IsBesideOne, IsBesideAny, IsOfTwo, IsOfPartner, IsOfAction, IsOfTask};
+ghost use Rattle.cpt_tables.specs.Serving.{IsServed};
 
 use crate::faults::PairFault;
 use crate::least::least_limit;
@@ -133,7 +135,9 @@ fn first_pair(task: &Task, pairs: &PairTable) -> Option<Pair>
 /// It takes no memory.
 pub fn admissible_pairs(task: &Task, pairs: &PairTable) -> Option<PairFault>
     requires fits { FitsPairs task.now pairs.now }
-    ensures { MatchOption result (IsAdmissiblePairs task.now pairs.now) (IsPairFault task.now pairs.now) }
+    ensures answer { MatchOption result (IsAdmissiblePairs task.now pairs.now) (IsPairFault task.now pairs.now) }
+    // An admissible table bounds the moments of plans.
+    ensures bounds { IfNone result (BoundsPairs task.now pairs.now) }
 {
     let fault = first_pair(task, pairs);
     match fault {

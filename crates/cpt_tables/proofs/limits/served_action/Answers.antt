@@ -2,7 +2,7 @@ use Rattle.std.proofs.Common.{◌≡◌, ◌<◌, length, get_or, subst, sym, �
 use Rattle.std.proofs.lemmas.List.{get_or_read}
 use Rattle.cpt_task.specs.Timeline.{idle}
 use Rattle.cpt_tables.specs.Admissible.{nth_action}
-use Rattle.cpt_tables.specs.Scans.{IsServed}
+use Rattle.cpt_tables.specs.Serving.{IsServed}
 use Rattle.cpt_tables.proofs.TaskLemmas.{nth_served}
 use Rattle.cpt_tables.proofs.limits.served_action.Goals as goal
 
