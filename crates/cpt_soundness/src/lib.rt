@@ -1,0 +1,7 @@
+//! Why no plan is lost: laws of sheets and the plans that they admit. Their contracts are what they say, and their
+//! bodies are empty.
+#![tactic(auto)]
+
+mod laws;
+
+pub use laws::gaps_kept;
