@@ -1,1 +1,3 @@
 pub mod PlanLemmas
+pub mod ViewLemmas
+pub mod AdmitLemmas
