@@ -4,4 +4,4 @@
 
 mod laws;
 
-pub use laws::gaps_kept;
+pub use laws::{gaps_kept, narrow_keeps};
