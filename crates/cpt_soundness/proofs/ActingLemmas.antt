@@ -41,7 +41,7 @@ all_has P (d ∷ cs) all c h =
       [ inl e ↦ subst P (same_is d c e) (All-head P d cs all)
       | inr e ↦ all_has P cs (All-tail P d cs all) c e ]
 
-atom_there : (p : ℕ) (ns : List Need) → has_atom p ns ≡ true → Contains (map (λ (n : Need). n.atom) ns) p
+pub atom_there : (p : ℕ) (ns : List Need) → has_atom p ns ≡ true → Contains (map (λ (n : Need). n.atom) ns) p
 atom_there p [] h = cc
 atom_there p (n ∷ ns) h =
     elim (or_cases (n.atom == p) (has_atom p ns) h)

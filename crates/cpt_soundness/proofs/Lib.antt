@@ -4,3 +4,6 @@ pub mod AdmitLemmas
 pub mod ActingLemmas
 pub mod RuleLemmas
 pub mod NarrowLemmas
+pub mod DeadLemmas
+pub mod AdderLemmas
+pub mod RootLemmas

@@ -63,7 +63,7 @@ module _ (t : TaskShape) (b : Tables) (plan : List Occ) (ok : IsAdmissible t b) 
   held (place i) p l has = needs_hold t plan i p (occurrence_at plan i).start valid l has (omega arith) (strict i l)
 
   -- what he needs is bounded from the start
-  set_by : (u : Who) → IsWithin plan u → set_span_of b.pairs (needs_of t (kind_who plan u)) ≤ˢ At (begins t plan u)
+  pub set_by : (u : Who) → IsWithin plan u → set_span_of b.pairs (needs_of t (kind_who plan u)) ≤ˢ At (begins t plan u)
   set_by u l =
       across_le b.pairs (needs_of t (kind_who plan u)) (needs_of t (kind_who plan u)) (At (begins t plan u))
         (λ p q hp hq. pairs_bound t b.pairs ok.bounds ok.pairs plan valid (begins t plan u) p q (held u p l hp) (held u q l hq))

@@ -1,3 +1,4 @@
 pub mod Acting
 pub mod Safety
 pub mod Laws
+pub mod Sets

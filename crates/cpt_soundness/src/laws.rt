@@ -1,7 +1,7 @@
 //! The laws.
 
 ghost use Rattle.cpt_soundness.specs.Acting.{GapsKept};
-ghost use Rattle.cpt_soundness.specs.Laws.{NarrowKeeps};
+ghost use Rattle.cpt_soundness.specs.Laws.{RootAdmits, NarrowKeeps, DeadAdmitsNone};
 
 /// Over admissible tables every valid plan keeps the gaps: who ends before another begins leaves the gap of the
 /// tables between their beginnings.
@@ -9,7 +9,17 @@ pub fn gaps_kept()
     ensures { GapsKept }
 {}
 
+/// The root admits every valid plan with a makespan of at most its bound, under every map.
+pub fn root_admits()
+    ensures { RootAdmits }
+{}
+
 /// A legal step of any of the thirteen rules keeps every valid plan that a formed sheet admits, under the same map.
 pub fn narrow_keeps()
     ensures { NarrowKeeps }
+{}
+
+/// A dead sheet admits no valid plan.
+pub fn dead_admits_none()
+    ensures { DeadAdmitsNone }
 {}
