@@ -7,3 +7,5 @@ pub mod NarrowLemmas
 pub mod DeadLemmas
 pub mod AdderLemmas
 pub mod RootLemmas
+pub mod BringLemmas
+pub mod CoverLemmas

@@ -2,3 +2,4 @@ pub mod Acting
 pub mod Safety
 pub mod Laws
 pub mod Sets
+pub mod Children

@@ -2,6 +2,7 @@
 
 ghost use Rattle.cpt_soundness.specs.Acting.{GapsKept};
 ghost use Rattle.cpt_soundness.specs.Laws.{RootAdmits, NarrowKeeps, DeadAdmitsNone};
+ghost use Rattle.cpt_soundness.specs.Children.{ChildrenCover};
 
 /// Over admissible tables every valid plan keeps the gaps: who ends before another begins leaves the gap of the
 /// tables between their beginnings.
@@ -22,4 +23,10 @@ pub fn narrow_keeps()
 /// A dead sheet admits no valid plan.
 pub fn dead_admits_none()
     ensures { DeadAdmitsNone }
+{}
+
+/// Each valid plan that a formed sheet with a flaw admits is admitted after one of the flaw's children: under the same
+/// map, or, where a token is brought, with a place for it.
+pub fn children_cover()
+    ensures { ChildrenCover }
 {}
