@@ -9,3 +9,4 @@ pub mod AdderLemmas
 pub mod RootLemmas
 pub mod BringLemmas
 pub mod CoverLemmas
+pub mod TreeLemmas

@@ -3,3 +3,4 @@ pub mod Safety
 pub mod Laws
 pub mod Sets
 pub mod Children
+pub mod Tree

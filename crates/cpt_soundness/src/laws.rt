@@ -3,6 +3,7 @@
 ghost use Rattle.cpt_soundness.specs.Acting.{GapsKept};
 ghost use Rattle.cpt_soundness.specs.Laws.{RootAdmits, NarrowKeeps, DeadAdmitsNone};
 ghost use Rattle.cpt_soundness.specs.Children.{ChildrenCover};
+ghost use Rattle.cpt_soundness.specs.Tree.{TreeRefutes};
 
 /// Over admissible tables every valid plan keeps the gaps: who ends before another begins leaves the gap of the
 /// tables between their beginnings.
@@ -29,4 +30,10 @@ pub fn dead_admits_none()
 /// map, or, where a token is brought, with a place for it.
 pub fn children_cover()
     ensures { ChildrenCover }
+{}
+
+/// Where a closed tree stands over the root of a bound, of legal steps, of branches on flaws with all their children
+/// and of dead sheets, no valid plan of any number of occurrences has a makespan of at most that bound.
+pub fn tree_refutes()
+    ensures { TreeRefutes }
 {}

@@ -1,0 +1,39 @@
+-- a closed tree refutes
+use Rattle.std.proofs.Common.{ℕ, List, length, Contains}
+use Rattle.cpt_task.specs.declared.plan.Occ.{Occ}
+use Rattle.cpt_task.specs.Shape.{TaskShape}
+use Rattle.cpt_task.specs.Timeline.{IsValid}
+use Rattle.cpt_tables.specs.declared.tables.Tables.{Tables}
+use Rattle.cpt_sheet.specs.declared.data.Sheet.{Sheet}
+use Rattle.cpt_sheet.specs.declared.data.Decision.{Decision}
+use Rattle.cpt_sheet.specs.declared.data.Decision.TheVariants.{Join, Bring, Before}
+use Rattle.cpt_calculus.specs.Root.{root_of}
+use Rattle.cpt_calculus.specs.Decisions.{applied}
+use Rattle.cpt_calculus.specs.Plans.{Admits}
+use Rattle.cpt_soundness.specs.Acting.{IsAdmissible}
+use Rattle.cpt_soundness.specs.Sets.{HasSets}
+use Rattle.cpt_soundness.specs.Children.{with_place, AdmitsAfter}
+use Rattle.cpt_soundness.specs.Tree.{IsClosedTree, TreeRefutes}
+use Rattle.cpt_soundness.specs.Tree.IsClosedTree.{close, narrow, branch}
+use Rattle.cpt_soundness.proofs.NarrowLemmas.{narrow_keeps}
+use Rattle.cpt_soundness.proofs.DeadLemmas.{dead_admits_none}
+use Rattle.cpt_soundness.proofs.RootLemmas.{root_admits}
+use Rattle.cpt_soundness.proofs.CoverLemmas.{children_cover}
+
+-- a sheet over which a closed tree stands admits no plan
+pub closed_admits_none : (t : TaskShape) (b : Tables) (plan : List Occ) → HasSets t → IsAdmissible t b → IsValid t plan →
+    (s : Sheet) → IsClosedTree t b s → (f : ℕ → ℕ) → Admits t plan f s → ⊥
+closed_admits_none t b plan sets ok valid s (close r formed dead) f h = dead_admits_none t b s plan f sets ok formed dead valid h
+closed_admits_none t b plan sets ok valid s (narrow r step formed legal tree) f h =
+    closed_admits_none t b plan sets ok valid _ tree f (narrow_keeps t b s step plan f ok formed legal valid h)
+closed_admits_none t b plan sets ok valid s (branch r flaw formed stands trees) f h =
+    let c = children_cover t b s flaw plan f ok formed stands valid h in
+    after s c.0 c.2 (λ g k. closed_admits_none t b plan sets ok valid _ (trees c.0 c.1) g k)
+  where
+    after : (s : Sheet) (d : Decision) → AdmitsAfter t plan f s d → ((g : ℕ → ℕ) → Admits t plan g (applied t s d) → ⊥) → ⊥
+    after s (Join x p y) k none = none f k
+    after s (Bring x p a) k none = none (with_place f (length s.tokens) k.0) k.1
+    after s (Before x y) k none = none f k
+
+pub tree_refutes : TreeRefutes
+tree_refutes t b m sets ok tree plan valid short = closed_admits_none t b plan sets ok valid (root_of t b m) tree (λ x. x) (root_admits t b m plan (λ x. x) ok valid short)
