@@ -1,12 +1,12 @@
 -- tokens and outside actions of a formed sheet, and those for whom they stand
-use Rattle.std.proofs.Common.{◌≡◌, ◌≢◌, ℕ, suc, zero, ◌+◌, ◌-◌, ◌≤◌, ◌<◌, ◌==◌, ◌||◌, List, [], ◌∷◌, map, Bool, true, false, length, get_or, slice_get, unwrap_or, All, Contains, refl, sym, ◌∙◌, ap, subst, arith, inl, inr, ◌⊎◌}
-use Rattle.std.proofs.lemmas.Bool.{both_ways, cases_eq, cases_lt, or_cases, eqb-true, eq-eqb, false_from_ne_true}
+use Rattle.std.proofs.Common.{◌≡◌, ◌≢◌, ℕ, suc, zero, ◌<◌, ◌==◌, List, [], ◌∷◌, map, true, false, length, All, Contains, refl, sym, ◌∙◌, ap, subst, arith, inl, inr, ◌⊎◌}
+use Rattle.std.proofs.lemmas.Bool.{both_ways, cases_eq, cases_lt, or_cases, eqb-true, false_from_ne_true}
 use Rattle.std.proofs.lemmas.List.Elements.{All-head, All-tail}
 use Rattle.cpt_task.specs.declared.plan.Occ.{Occ}
 use Rattle.cpt_task.specs.declared.span.Span.{Span}
 use Rattle.cpt_task.specs.declared.span.Span.TheVariants.{At, Never}
 use Rattle.cpt_task.specs.Shape.{TaskShape}
-use Rattle.cpt_task.specs.Timeline.{action_of, end_of, occurrence_at, makespan, IsValid}
+use Rattle.cpt_task.specs.Timeline.{action_of, occurrence_at, IsValid}
 use Rattle.cpt_tables.specs.declared.tables.Tables.{Tables}
 use Rattle.cpt_tables.specs.Spans.{◌≤ˢ◌, ◌+ˢ◌}
 use Rattle.cpt_tables.proofs.SpanLemmas.{le_trans, add_mono}
@@ -17,13 +17,13 @@ use Rattle.cpt_sheet.specs.declared.data.Kind.TheVariants.{Start, End, Act}
 use Rattle.cpt_sheet.specs.declared.data.Need.{Need}
 use Rattle.cpt_sheet.specs.declared.data.Token.{Token}
 use Rattle.cpt_sheet.specs.declared.data.Sheet.{Sheet}
-use Rattle.cpt_sheet.specs.Roles.{needs_of, adds_of, Deletes, Clash}
+use Rattle.cpt_sheet.specs.Roles.{needs_of, Deletes, Clash}
 use Rattle.cpt_sheet.specs.View.{no_token, token_at, lo, hi, kind_of, cands, has_atom, has_need, before, has, same}
 use Rattle.cpt_sheet.specs.Formed.{IsFormed}
 use Rattle.cpt_sheet.specs.Gaps.{gap, back, arrival, deadline, CanPrecede, ordered}
 use Rattle.cpt_sheet.proofs.FormedLemmas.{at_past}
 use Rattle.cpt_calculus.specs.Rules.{IsToken}
-use Rattle.cpt_calculus.specs.Plans.{Who, begins, ends, who, who_of_kind, StandsFor, IsOutside, Supplies, Admits}
+use Rattle.cpt_calculus.specs.Plans.{Who, begins, who, who_of_kind, StandsFor, Supplies, Admits}
 use Rattle.cpt_calculus.specs.Plans.Who.{begin, finish, place}
 use Rattle.cpt_soundness.specs.Acting.{IsAdmissible, kind_who, IsWithin, IsAhead}
 use Rattle.cpt_soundness.proofs.PlanLemmas.{nil_has, keeps_gaps, not_both, apart, cleared, supplies_ahead, supplies_within, supplier}
@@ -37,16 +37,18 @@ back_le m n Never h = absurd h
 pub all_has : (P : Cand → Type 0) (cs : List Cand) → All P cs → (c : Cand) → has c cs ≡ true → P c
 all_has P [] all c h = cc
 all_has P (d ∷ cs) all c h =
-    elim (or_cases (same d c) (has c cs) h)
-      [ inl e ↦ subst P (same_is d c e) (All-head P d cs all)
-      | inr e ↦ all_has P cs (All-tail P d cs all) c e ]
+    elim (or_cases (same d c) (has c cs) h) [
+      | inl e ↦ subst P (same_is d c e) (All-head P d cs all)
+      | inr e ↦ all_has P cs (All-tail P d cs all) c e
+    ]
 
 pub atom_there : (p : ℕ) (ns : List Need) → has_atom p ns ≡ true → Contains (map (λ (n : Need). n.atom) ns) p
 atom_there p [] h = cc
 atom_there p (n ∷ ns) h =
-    elim (or_cases (n.atom == p) (has_atom p ns) h)
-      [ inl e ↦ (0, omega arith, eqb-true n.atom p e)
-      | inr e ↦ (let r = atom_there p ns e in (suc r.0, (let l = r.1 in omega (arith, l)), r.2)) ]
+    elim (or_cases (n.atom == p) (has_atom p ns) h) [
+      | inl e ↦ (0, omega arith, eqb-true n.atom p e)
+      | inr e ↦ (let r = atom_there p ns e in (suc r.0, (let l = r.1 in omega (arith, l)), r.2))
+    ]
 
 -- a token stands for the place, or none does
 place_cases : (f : ℕ → ℕ) (s : Sheet) (i n : ℕ) → ((x : ℕ) × (x < n) × (who f s x ≡ place i)) ⊎ ((x : ℕ) → x < n → who f s x ≢ place i)
@@ -57,6 +59,7 @@ place_cases f s i (suc n) = go (place_cases f s i n) (test (who f s n))
     test begin = inr (λ e. cc)
     test finish = inr (λ e. cc)
     test (place j) = elim (cases_eq j i) [ inl e ↦ inl (ap place e) | inr e ↦ inr (λ k. e (let k' : j ≡ i = cc in k')) ]
+
     go : (((x : ℕ) × (x < n) × (who f s x ≡ place i)) ⊎ ((x : ℕ) → x < n → who f s x ≢ place i)) → ((who f s n ≡ place i) ⊎ (who f s n ≢ place i)) →
         ((x : ℕ) × (x < suc n) × (who f s x ≡ place i)) ⊎ ((x : ℕ) → x < suc n → who f s x ≢ place i)
     go (inl k) q = inl (k.0, (let l = k.1 in omega (arith, l)), k.2)
@@ -96,9 +99,10 @@ module _ (t : TaskShape) (b : Tables) (plan : List Occ) (ok : IsAdmissible t b) 
   clash_ahead (place i) begin l m ne c = absurd c
   clash_ahead (place i) finish l m ne c = absurd c
   clash_ahead (place i) (place j) l m ne c =
-      elim (apart t b plan ok valid i j l m (λ e. ne (ap place e)) c.interfere.interfere)
-        [ inl e ↦ inl (record { different = ne; forward = λ k. (let k0 = k.0 in cc); first = e })
-        | inr e ↦ inr (record { different = λ k. ne (sym k); forward = λ k. (let k0 = k.0 in cc); first = e }) ]
+      elim (apart t b plan ok valid i j l m (λ e. ne (ap place e)) c.interfere.interfere) [
+        | inl e ↦ inl (record { different = ne; forward = λ k. (let k0 = k.0 in cc); first = e })
+        | inr e ↦ inr (record { different = λ k. ne (sym k); forward = λ k. (let k0 = k.0 in cc); first = e })
+      ]
 
 module _ (t : TaskShape) (b : Tables) (plan : List Occ) (ok : IsAdmissible t b) (valid : IsValid t plan) (f : ℕ → ℕ) (s : Sheet) (formed : IsFormed t s) (h : Admits t plan f s) where
   who_is : (x : ℕ) → x < length s.tokens → (k : Kind) → kind_of s (Tok x) ≡ k → IsWithin plan (who_of_kind f x k) × (kind_who plan (who_of_kind f x k) ≡ k)
@@ -115,21 +119,21 @@ module _ (t : TaskShape) (b : Tables) (plan : List Occ) (ok : IsAdmissible t b) 
   gap_between c d v w sc sd a =
       let rc = stands_is c v sc in let rd = stands_is d w sd in
       subst (λ k. (At (begins t plan v) +ˢ gap t b k (kind_of s d)) ≤ˢ At (begins t plan w)) rc.1
-        (subst (λ k. (At (begins t plan v) +ˢ gap t b (kind_who plan v) k) ≤ˢ At (begins t plan w)) rd.1
-          (keeps_gaps t b plan ok valid v w rc.0 rd.0 a))
+      (subst (λ k. (At (begins t plan v) +ˢ gap t b (kind_who plan v) k) ≤ˢ At (begins t plan w)) rd.1
+      (keeps_gaps t b plan ok valid v w rc.0 rd.0 a))
 
   -- who is ahead of another begins so early that the other is no earlier than the arrival
   pub in_time : (c d : Cand) (v w : Who) → StandsFor f plan s c v → StandsFor f plan s d w → IsAhead t plan v w → arrival t b s c d ≤ˢ At (begins t plan w)
   in_time c d v w sc sd a =
       le_trans (arrival t b s c d) (At (begins t plan v) +ˢ gap t b (kind_of s c) (kind_of s d)) (At (begins t plan w))
-        (add_mono (lo s c) (At (begins t plan v)) (gap t b (kind_of s c) (kind_of s d)) (h.spans c v sc).0)
-        (gap_between c d v w sc sd a)
+      (add_mono (lo s c) (At (begins t plan v)) (gap t b (kind_of s c) (kind_of s d)) (h.spans c v sc).0)
+      (gap_between c d v w sc sd a)
 
   -- and no later than the deadline
   pub by_deadline : (c d : Cand) (v w : Who) → StandsFor f plan s c v → StandsFor f plan s d w → IsAhead t plan v w → At (begins t plan v) ≤ˢ deadline t b s c d
   by_deadline c d v w sc sd a =
       back_le (begins t plan v) (hi s d) (gap t b (kind_of s c) (kind_of s d))
-        (le_trans (At (begins t plan v) +ˢ gap t b (kind_of s c) (kind_of s d)) (At (begins t plan w)) (At (hi s d)) (gap_between c d v w sc sd a) (h.spans d w sd).1)
+      (le_trans (At (begins t plan v) +ˢ gap t b (kind_of s c) (kind_of s d)) (At (begins t plan w)) (At (hi s d)) (gap_between c d v w sc sd a) (h.spans d w sd).1)
 
   two : 1 < length s.tokens
   two = let n = formed.two in omega (arith, n)
@@ -148,17 +152,19 @@ module _ (t : TaskShape) (b : Tables) (plan : List Occ) (ok : IsAdmissible t b) 
       record {
         different = λ k. p.different (h.apart x y p.first p.second k);
         forward = λ k. p.forward (h.apart x 1 p.first two (k.0 ∙ sym end_who), h.apart y 0 p.second (omega (arith, n)) (k.1 ∙ sym start_who));
-        first = h.orders x y e }
+        first = h.orders x y e;
+      }
 
   -- who is ahead can precede
   pub can_precede : (c d : Cand) (v w : Who) → StandsFor f plan s c v → StandsFor f plan s d w → IsAhead t plan v w → CanPrecede t b s c d
   can_precede c d v w sc sd a = record {
     in_time = le_trans (arrival t b s c d) (At (begins t plan w)) (At (hi s d)) (in_time c d v w sc sd a) (h.spans d w sd).1;
-    free = free c d sc sd }
+    free = free c d sc sd;
+  }
     where
       free : (c d : Cand) → StandsFor f plan s c v → StandsFor f plan s d w → ordered s d c ≡ false
       free (Tok x) (Tok y) kx ky = false_from_ne_true (before s y x) (λ e.
-        not_both t b plan ok valid v w (stands_is (Tok x) v kx).0 (stands_is (Tok y) w ky).0 a
+          not_both t b plan ok valid v w (stands_is (Tok x) v kx).0 (stands_is (Tok y) w ky).0 a
           (subst (λ z. IsAhead t plan z v) ky.1 (subst (λ z. IsAhead t plan (who f s y) z) kx.1 (order_ahead y x e))))
       free (Tok x) (Out e) kx ky = refl
       free (Out e) (Tok y) kx ky = refl
@@ -184,9 +190,10 @@ module _ (t : TaskShape) (b : Tables) (plan : List Occ) (ok : IsAdmissible t b) 
   pub stander : (w : Who) → IsWithin plan w → (c : Cand) × StandsFor f plan s c w
   stander begin l = (Tok 0, ((let n = two in omega (arith, n)), start_who))
   stander finish l = (Tok 1, (two, end_who))
-  stander (place i) l = elim (place_cases f s i (length s.tokens))
-    [ inl q ↦ (Tok q.0, (q.1, q.2))
-    | inr q ↦ (Out (occurrence_at plan i).act, (i, refl, record { within = l; action = refl; free = q })) ]
+  stander (place i) l = elim (place_cases f s i (length s.tokens)) [
+    | inl q ↦ (Tok q.0, (q.1, q.2))
+    | inr q ↦ (Out (occurrence_at plan i).act, (i, refl, record { within = l; action = refl; free = q }))
+  ]
 
   -- a token with a need is there, and the one for whom it stands has it
   pub need_there : (x p : ℕ) → has_need s x p ≡ true → x < length s.tokens
@@ -197,7 +204,7 @@ module _ (t : TaskShape) (b : Tables) (plan : List Occ) (ok : IsAdmissible t b) 
   who_needs x p n =
       let l = need_there x p n in
       subst (λ k. Contains (needs_of t k) p) (sym (stands_is (Tok x) (who f s x) (l, refl)).1)
-        (subst (λ ns. Contains ns p) (formed.needs x l) (atom_there p (token_at s x).lists n))
+      (subst (λ ns. Contains ns p) (formed.needs x l) (atom_there p (token_at s x).lists n))
 
   pub need_ahead : (x p : ℕ) (w : Who) → has_need s x p ≡ true → Supplies t plan p (begins t plan (who f s x)) w → IsAhead t plan w (who f s x)
   need_ahead x p w n sup = supplies_ahead t b plan ok valid p w (who f s x) (stands_is (Tok x) (who f s x) (need_there x p n, refl)).0 (who_needs x p n) sup
@@ -228,8 +235,8 @@ module _ (t : TaskShape) (b : Tables) (plan : List Occ) (ok : IsAdmissible t b) 
       let d = who_deletes t plan v p (subst (λ k. Deletes t k p) (sym r.1) del) in
       let u = who f s x in
       subst (λ z. IsAhead t plan z w ⊎ IsAhead t plan u z) (sym d.1)
-        (cleared t b plan ok valid d.0 p w u (subst (λ z. IsWithin plan z) d.1 r.0) (stands_is (Tok x) u (need_there x p n, refl)).0 d.2 (who_needs x p n) sup
-          (λ k. nw (d.1 ∙ k)) (λ k. nx (d.1 ∙ k)))
+      (cleared t b plan ok valid d.0 p w u (subst (λ z. IsWithin plan z) d.1 r.0) (stands_is (Tok x) u (need_there x p n, refl)).0 d.2 (who_needs x p n) sup
+      (λ k. nw (d.1 ∙ k)) (λ k. nx (d.1 ∙ k)))
 
   -- of two candidates that interfere one is ahead
   pub clash_stands : (c d : Cand) (v w : Who) → StandsFor f plan s c v → StandsFor f plan s d w → v ≢ w → Clash t (kind_of s c) (kind_of s d) → IsAhead t plan v w ⊎ IsAhead t plan w v

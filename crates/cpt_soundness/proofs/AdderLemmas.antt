@@ -1,6 +1,6 @@
 -- the lists of all that add an atom
-use Rattle.std.proofs.Common.{◌≡◌, ◌≢◌, ℕ, suc, zero, ◌+◌, ◌≤◌, ◌<◌, ◌==◌, ◌||◌, ◌&&◌, List, [], ◌∷◌, ◌++◌, map, Bool, true, false, if◌then◌else◌, length, Contains, refl, sym, ◌∙◌, ap, subst, arith, inl, inr, ◌⊎◌}
-use Rattle.std.proofs.lemmas.Bool.{cases_lt, cases_Bool, both_ways, eqb-true, or_left, or_right, or_cases, and_from, le-leb}
+use Rattle.std.proofs.Common.{◌≡◌, ℕ, suc, zero, ◌<◌, ◌==◌, ◌||◌, ◌&&◌, List, [], ◌∷◌, ◌++◌, map, Bool, true, false, if◌then◌else◌, length, refl, ◌∙◌, ap, subst, arith, inl, inr, ◌⊎◌}
+use Rattle.std.proofs.lemmas.Bool.{cases_lt, both_ways, eqb-true, or_left, or_right, and_from, le-leb}
 use Rattle.std.proofs.lemmas.List.Folds.{list_any-append}
 use Rattle.cpt_task.specs.declared.span.Span.{Span}
 use Rattle.cpt_task.specs.declared.span.Span.TheVariants.{At, Never}
@@ -11,7 +11,6 @@ use Rattle.cpt_tables.specs.Admissible.{nth_action}
 use Rattle.cpt_tables.proofs.PlanFacts.{in_from_contains}
 use Rattle.cpt_sheet.specs.declared.data.Cand.{Cand}
 use Rattle.cpt_sheet.specs.declared.data.Cand.TheVariants.{Tok, Out}
-use Rattle.cpt_sheet.specs.declared.data.Interval.{Interval}
 use Rattle.cpt_sheet.specs.declared.data.Kind.TheVariants.{Act}
 use Rattle.cpt_sheet.specs.declared.data.Need.{Need}
 use Rattle.cpt_sheet.specs.declared.data.Sheet.{Sheet}
@@ -67,14 +66,14 @@ out_added t s p (suc n) a l h = go (IsLiveAdder t s p n) refl (split a n l) (λ 
 pub token_among : (t : TaskShape) (s : Sheet) (p y : ℕ) → y < length s.tokens → Adds t (kind_of s (Tok y)) p → has (Tok y) (adders t s p) ≡ true
 token_among t s p y l adds =
     has_left (Tok y) (token_adders t s p (length s.tokens)) (out_adders t s p (length t.actions))
-      (token_added t s p (length s.tokens) y l (in_from_contains (adds_of t (kind_of s (Tok y))) p adds))
+    (token_added t s p (length s.tokens) y l (in_from_contains (adds_of t (kind_of s (Tok y))) p adds))
 
 -- and so is each live outside action
 pub out_among : (t : TaskShape) (s : Sheet) (p a : ℕ) → a < length t.actions → IsOpen (span_of s (Out a)) → Adds t (Act a) p → has (Out a) (adders t s p) ≡ true
 out_among t s p a l live adds =
     has_right (Out a) (token_adders t s p (length s.tokens)) (out_adders t s p (length t.actions))
-      (out_added t s p (length t.actions) a l
-        (and_from (is_open (span_of s (Out a))) (is_in p (nth_action t a).add) (by_is (span_of s (Out a)).lo (span_of s (Out a)).hi live) (in_from_contains (nth_action t a).add p adds)))
+    (out_added t s p (length t.actions) a l
+    (and_from (is_open (span_of s (Out a))) (is_in p (nth_action t a).add) (by_is (span_of s (Out a)).lo (span_of s (Out a)).hi live) (in_from_contains (nth_action t a).add p adds)))
 
 -- the lists that are made for atoms
 pub made_atoms : (t : TaskShape) (s : Sheet) (ps : List ℕ) → map (λ (n : Need). n.atom) (map (need_for t s) ps) ≡ ps

@@ -1,22 +1,19 @@
 -- what the views show once a token is brought
-use Rattle.std.proofs.Common.{◌≡◌, ◌≢◌, ℕ, suc, zero, ◌+◌, ◌≤◌, ◌<◌, ◌==◌, ◌||◌, List, [], ◌∷◌, ◌++◌, map, Bool, true, false, if◌then◌else◌, length, get_or, slice_get, unwrap_or, Contains, refl, sym, ◌∙◌, ap, subst, arith, inl, inr, ◌⊎◌}
+use Rattle.std.proofs.Common.{◌≡◌, ℕ, suc, zero, ◌<◌, ◌==◌, ◌||◌, List, [], ◌∷◌, ◌++◌, map, Bool, true, false, if◌then◌else◌, length, slice_get, unwrap_or, refl, sym, ◌∙◌, ap, subst, arith, inl, inr, ◌⊎◌}
 use Rattle.std.proofs.lemmas.Bool.{or_left, or_right, or_cases}
 use Rattle.std.proofs.lemmas.List.{get_or_append_left, length-append}
 use Rattle.std.proofs.Math.Seq.{get_or-append_seam}
 use Rattle.std.proofs.lemmas.Option.{unwrap_or-slice_get}
 use Rattle.cpt_task.specs.Shape.{TaskShape}
-use Rattle.cpt_tables.specs.Admissible.{nth_action}
 use Rattle.cpt_sheet.specs.declared.data.Cand.{Cand}
 use Rattle.cpt_sheet.specs.declared.data.Cand.TheVariants.{Tok, Out}
-use Rattle.cpt_sheet.specs.declared.data.Kind.{Kind}
-use Rattle.cpt_sheet.specs.declared.data.Kind.TheVariants.{Act}
 use Rattle.cpt_sheet.specs.declared.data.Need.{Need}
 use Rattle.cpt_sheet.specs.declared.data.Token.{Token}
 use Rattle.cpt_sheet.specs.declared.data.Sheet.{Sheet}
 use Rattle.cpt_sheet.specs.declared.data.Decision.TheVariants.{Bring}
 use Rattle.cpt_sheet.specs.View.{no_token, token_at, span_of, kind_of, cands, list_for, has_atom, has_need, before, has_order, has, same}
-use Rattle.cpt_sheet.specs.Edits.{posted, with_list}
-use Rattle.cpt_calculus.specs.Decisions.{behind_tokens, beside, offer, offered, with_offers, joined, with_new, brought, applied, need_for}
+use Rattle.cpt_sheet.specs.Edits.{posted}
+use Rattle.cpt_calculus.specs.Decisions.{behind_tokens, beside, offer, offered, with_offers, joined, with_new, brought, applied}
 use Rattle.cpt_soundness.proofs.ViewLemmas.{same_self, list_cons, order_posted, span_with_list, kind_with_list, count_with_list, need_with_list, cands_with_list}
 
 -- the list with the new token beside the outside action
@@ -28,9 +25,10 @@ behind_new n (Out a ∷ cs) = or_left (same (Tok n) (Tok n)) (has (Tok n) (Out a
 behind_old : (n : ℕ) (c : Cand) (cs : List Cand) → has c cs ≡ true → has c (behind_tokens n cs) ≡ true
 behind_old n c [] h = cc
 behind_old n c (Tok y ∷ cs) h =
-    elim (or_cases (same (Tok y) c) (has c cs) h)
-      [ inl e ↦ or_left (same (Tok y) c) (has c (behind_tokens n cs)) e
-      | inr e ↦ or_right (same (Tok y) c) (has c (behind_tokens n cs)) (behind_old n c cs e) ]
+    elim (or_cases (same (Tok y) c) (has c cs) h) [
+      | inl e ↦ or_left (same (Tok y) c) (has c (behind_tokens n cs)) e
+      | inr e ↦ or_right (same (Tok y) c) (has c (behind_tokens n cs)) (behind_old n c cs e)
+    ]
 behind_old n c (Out a ∷ cs) h = or_right (same (Tok n) c) (has c (Out a ∷ cs)) h
 
 pub beside_new : (a n : ℕ) (cs : List Cand) → has (Out a) cs ≡ true → has (Tok n) (beside a n cs) ≡ true
@@ -72,7 +70,6 @@ token_last : (s : Sheet) (z : Token) (x : ℕ) → token_at (with_new s z x) (le
 token_last s z x = unwrap_or-slice_get (s.tokens ++ z ∷ []) (length s.tokens) no_token ∙ get_or-append_seam s.tokens z [] no_token
 
 module _ (t : TaskShape) (s : Sheet) (x p a : ℕ) where
-
   base_count : length (joined (with_offers s a (length s.tokens)) x p (length s.tokens)).tokens ≡ length s.tokens
   base_count = count_with_list (with_offers s a (length s.tokens)) x p (λ cs. Tok (length s.tokens) ∷ []) ∙ map_count a (length s.tokens) s.tokens
 
@@ -108,9 +105,10 @@ module _ (t : TaskShape) (s : Sheet) (x p a : ℕ) where
       (cands (applied t s (Bring x p a)) y q ≡ beside a (length s.tokens) (cands s y q)) ⊎ ((y ≡ x) × (q ≡ p) × (cands (applied t s (Bring x p a)) y q ≡ Tok (length s.tokens) ∷ []))
   bring_cands y q l =
       let e = ap (λ (z : Token). list_for q z.lists) (old y l) in
-      elim (cands_with_list (with_offers s a (length s.tokens)) x p (λ cs. Tok (length s.tokens) ∷ []) y q)
-        [ inl k ↦ inl (e ∙ (k ∙ offers_cands y q))
-        | inr k ↦ inr (k.0, k.1, e ∙ k.2) ]
+      elim (cands_with_list (with_offers s a (length s.tokens)) x p (λ cs. Tok (length s.tokens) ∷ []) y q) [
+        | inl k ↦ inl (e ∙ (k ∙ offers_cands y q))
+        | inr k ↦ inr (k.0, k.1, e ∙ k.2)
+      ]
 
   -- an order of the new sheet is one of the three that are posted or an old one
   abbrev pub IsOrder : ℕ → ℕ → ℕ → Type 0
@@ -121,8 +119,10 @@ module _ (t : TaskShape) (s : Sheet) (x p a : ℕ) where
     where
       go : (n : ℕ) → has_order y z (posted n x (posted n 1 (posted 0 n s.orders))) ≡ true → IsOrder n y z
       go n k =
-          elim (order_posted n x y z (posted n 1 (posted 0 n s.orders)) k)
-            [ inl e ↦ inl (inl (sym e.0, sym e.1))
-            | inr k1 ↦ elim (order_posted n 1 y z (posted 0 n s.orders) k1)
-                [ inl e ↦ inl (inr (sym e.0, sym e.1))
-                | inr k2 ↦ elim (order_posted 0 n y z s.orders k2) [ inl e ↦ inr (inl (sym e.0, sym e.1)) | inr k3 ↦ inr (inr k3) ] ] ]
+          elim (order_posted n x y z (posted n 1 (posted 0 n s.orders)) k) [
+            | inl e ↦ inl (inl (sym e.0, sym e.1))
+            | inr k1 ↦ elim (order_posted n 1 y z (posted 0 n s.orders) k1) [
+              | inl e ↦ inl (inr (sym e.0, sym e.1))
+              | inr k2 ↦ elim (order_posted 0 n y z s.orders k2) [ inl e ↦ inr (inl (sym e.0, sym e.1)) | inr k3 ↦ inr (inr k3) ]
+            ]
+          ]

@@ -1,28 +1,27 @@
 -- what valid plans keep
-use Rattle.std.proofs.Common.{◌≡◌, ◌≢◌, ℕ, suc, zero, ◌+◌, ◌-◌, ◌≤◌, ◌<◌, List, [], ◌∷◌, true, false, length, get_or, Contains, refl, sym, ◌∙◌, ap, subst, arith, inl, inr, ◌⊎◌, nat_lt, if◌then◌else◌, Bool}
+use Rattle.std.proofs.Common.{◌≡◌, ◌≢◌, ℕ, suc, zero, ◌+◌, ◌-◌, ◌≤◌, ◌<◌, List, [], ◌∷◌, true, length, Contains, refl, sym, ◌∙◌, ap, subst, arith, inl, inr, ◌⊎◌, if◌then◌else◌, Bool}
 use Rattle.std.proofs.lemmas.Bool.{both_ways, cases_lt, cases_eq, lt-ltb}
 use Rattle.std.proofs.lemmas.List.{get_or_default}
 use Rattle.std.proofs.lemmas.List.Elements.{All-contains}
 use Rattle.cpt_task.specs.declared.plan.Occ.{Occ}
 use Rattle.cpt_task.specs.declared.span.Span.{Span}
 use Rattle.cpt_task.specs.declared.span.Span.TheVariants.{At, Never}
-use Rattle.cpt_task.specs.Shape.{TaskShape, InBounds}
+use Rattle.cpt_task.specs.Shape.{TaskShape}
 use Rattle.cpt_task.specs.Interference.{Interferes}
-use Rattle.cpt_task.specs.Timeline.{action_of, end_of, occurrence_at, makespan, IsValid, HoldsThen, holds_at, deletes_at}
+use Rattle.cpt_task.specs.Timeline.{action_of, end_of, occurrence_at, makespan, IsValid, HoldsThen, deletes_at}
 use Rattle.cpt_tables.specs.declared.tables.Tables.{Tables}
 use Rattle.cpt_tables.specs.Spans.{◌≤ˢ◌, ◌+ˢ◌}
-use Rattle.cpt_tables.specs.Shapes.{PairShape, DistShape, dist_at, set_span_of, most_dist}
+use Rattle.cpt_tables.specs.Shapes.{dist_at, set_span_of, most_dist}
 use Rattle.cpt_tables.specs.Admissible.{nth_action}
 use Rattle.cpt_tables.proofs.MostLemmas.{over_le}
 use Rattle.cpt_tables.proofs.SetLemmas.{across_le, all_from}
 use Rattle.cpt_tables.proofs.PairBounds.{pairs_bound}
 use Rattle.cpt_tables.proofs.DistBounds.{dists_bound}
 use Rattle.cpt_tables.proofs.PlanFacts.{contains_from_in, contains_cases, added_by, deletes_from, since, lasts, needs_hold, no_clash}
-use Rattle.cpt_sheet.specs.declared.data.Kind.{Kind}
-use Rattle.cpt_sheet.specs.declared.data.Kind.TheVariants.{Start, End, Act}
+use Rattle.cpt_sheet.specs.declared.data.Kind.TheVariants.{Act}
 use Rattle.cpt_sheet.specs.Roles.{needs_of, adds_of}
-use Rattle.cpt_sheet.specs.Gaps.{gap, reach}
-use Rattle.cpt_calculus.specs.Plans.{Who, begins, ends, IsAdder, IsLastAdder, IsNoEarlier, Supplies}
+use Rattle.cpt_sheet.specs.Gaps.{reach}
+use Rattle.cpt_calculus.specs.Plans.{Who, begins, IsAdder, IsNoEarlier, Supplies}
 use Rattle.cpt_calculus.specs.Plans.Who.{begin, finish, place}
 use Rattle.cpt_soundness.specs.Acting.{IsAdmissible, kind_who, IsWithin, IsAhead, KeepsGaps, GapsKept}
 
@@ -66,25 +65,25 @@ module _ (t : TaskShape) (b : Tables) (plan : List Occ) (ok : IsAdmissible t b) 
   pub set_by : (u : Who) → IsWithin plan u → set_span_of b.pairs (needs_of t (kind_who plan u)) ≤ˢ At (begins t plan u)
   set_by u l =
       across_le b.pairs (needs_of t (kind_who plan u)) (needs_of t (kind_who plan u)) (At (begins t plan u))
-        (λ p q hp hq. pairs_bound t b.pairs ok.bounds ok.pairs plan valid (begins t plan u) p q (held u p l hp) (held u q l hq))
+      (λ p q hp hq. pairs_bound t b.pairs ok.bounds ok.pairs plan valid (begins t plan u) p q (held u p l hp) (held u q l hq))
 
   -- and from each occurrence that has ended
   dist_by : (i : ℕ) (u : Who) → i < length plan → IsWithin plan u → end_of t (occurrence_at plan i) ≤ begins t plan u →
       (At (end_of t (occurrence_at plan i)) +ˢ most_dist b.dists (occurrence_at plan i).act (needs_of t (kind_who plan u))) ≤ˢ At (begins t plan u)
   dist_by i u l m e =
       move_on (end_of t (occurrence_at plan i)) (begins t plan u) (most_dist b.dists (occurrence_at plan i).act (needs_of t (kind_who plan u))) e
-        (over_le (dist_at b.dists (occurrence_at plan i).act) (needs_of t (kind_who plan u)) (At (begins t plan u - end_of t (occurrence_at plan i)))
-          (all_from (λ p. dist_at b.dists (occurrence_at plan i).act p ≤ˢ At (begins t plan u - end_of t (occurrence_at plan i))) (needs_of t (kind_who plan u))
-            (λ p has. back_off (end_of t (occurrence_at plan i)) (begins t plan u) (dist_at b.dists (occurrence_at plan i).act p)
-              (dists_bound t b.pairs b.dists ok.bounds ok.pairs ok.dists plan valid (occurrence_at plan i) (i, l, sym (get_or_default plan i (record { act = 0; start = 0 }) (occurrence_at plan i) l)) (begins t plan u) p e (held u p m has)))))
+      (over_le (dist_at b.dists (occurrence_at plan i).act) (needs_of t (kind_who plan u)) (At (begins t plan u - end_of t (occurrence_at plan i)))
+      (all_from (λ p. dist_at b.dists (occurrence_at plan i).act p ≤ˢ At (begins t plan u - end_of t (occurrence_at plan i))) (needs_of t (kind_who plan u))
+      (λ p has. back_off (end_of t (occurrence_at plan i)) (begins t plan u) (dist_at b.dists (occurrence_at plan i).act p)
+      (dists_bound t b.pairs b.dists ok.bounds ok.pairs ok.dists plan valid (occurrence_at plan i) (i, l, sym (get_or_default plan i (record { act = 0; start = 0 }) (occurrence_at plan i) l)) (begins t plan u) p e (held u p m has)))))
 
   after : (i : ℕ) (u : Who) → i < length plan → IsWithin plan u → end_of t (occurrence_at plan i) ≤ begins t plan u →
       (At (occurrence_at plan i).start +ˢ reach t b (Act (occurrence_at plan i).act) (needs_of t (kind_who plan u))) ≤ˢ At (begins t plan u)
   after i u l m e =
       subst (λ (c : Bool). (At (occurrence_at plan i).start +ˢ (if c then At (nth_action t (occurrence_at plan i).act).dur +ˢ most_dist b.dists (occurrence_at plan i).act (needs_of t (kind_who plan u)) else Never)) ≤ˢ At (begins t plan u))
-        (sym (lt-ltb (occurrence_at plan i).act (length t.actions) (valid.of_task i (record { act = 0; start = 0 }) l)))
-        (add_assoc (occurrence_at plan i).start (nth_action t (occurrence_at plan i).act).dur (begins t plan u) (most_dist b.dists (occurrence_at plan i).act (needs_of t (kind_who plan u)))
-          (dist_by i u l m e))
+      (sym (lt-ltb (occurrence_at plan i).act (length t.actions) (valid.of_task i (record { act = 0; start = 0 }) l)))
+      (add_assoc (occurrence_at plan i).start (nth_action t (occurrence_at plan i).act).dur (begins t plan u) (most_dist b.dists (occurrence_at plan i).act (needs_of t (kind_who plan u)))
+      (dist_by i u l m e))
 
   pub keeps_gaps : KeepsGaps t b plan
   keeps_gaps begin begin l m a = absurd (a.different refl)
@@ -113,9 +112,10 @@ module _ (t : TaskShape) (b : Tables) (plan : List Occ) (ok : IsAdmissible t b) 
   pub apart : (i j : ℕ) → i < length plan → j < length plan → i ≢ j → Interferes (action_of t (occurrence_at plan i)) (action_of t (occurrence_at plan j)) →
       (end_of t (occurrence_at plan i) ≤ (occurrence_at plan j).start) ⊎ (end_of t (occurrence_at plan j) ≤ (occurrence_at plan i).start)
   apart i j li lj ne inter =
-      elim (cases_lt (occurrence_at plan i).start (end_of t (occurrence_at plan j)))
-        [ inl a ↦ elim (cases_lt (occurrence_at plan j).start (end_of t (occurrence_at plan i))) [ inl c ↦ absurd (no_clash t plan i j valid li lj ne a c inter) | inr c ↦ inl c ]
-        | inr a ↦ inr a ]
+      elim (cases_lt (occurrence_at plan i).start (end_of t (occurrence_at plan j))) [
+        | inl a ↦ elim (cases_lt (occurrence_at plan j).start (end_of t (occurrence_at plan i))) [ inl c ↦ absurd (no_clash t plan i j valid li lj ne a c inter) | inr c ↦ inl c ]
+        | inr a ↦ inr a
+      ]
 
   -- what is deleted and not added again does not hold
   gone : (d p m : ℕ) → d < length plan → Contains (action_of t (occurrence_at plan d)).dele p → end_of t (occurrence_at plan d) ≤ m →
@@ -125,13 +125,14 @@ module _ (t : TaskShape) (b : Tables) (plan : List Occ) (ok : IsAdmissible t b) 
       go : (e : ℕ) → e ≡ end_of t (occurrence_at plan d) → ⊥
       go zero e = let s = strict d l in omega (arith, s, e)
       go (suc n) e =
-          elim (since t plan p n m (omega (arith, e, le)) h)
-            [ inl a ↦ (let by = added_by t plan a.0 p a.3 in
-                       let ends_then : end_of t (occurrence_at plan by.0) ≡ a.0 = by.1.ends in
-                       let low : n < a.0 = a.1 in let high : a.0 ≤ m = a.2 in
-                       none by.0 (record { within = by.1.within; adds = by.1.adds; ended = omega (arith, ends_then, high) }) (omega (arith, ends_then, low, e)))
+          elim (since t plan p n m (omega (arith, e, le)) h) [
+            | inl a ↦ (let by = added_by t plan a.0 p a.3 in
+                let ends_then : end_of t (occurrence_at plan by.0) ≡ a.0 = by.1.ends in
+                let low : n < a.0 = a.1 in let high : a.0 ≤ m = a.2 in
+                none by.0 (record { within = by.1.within; adds = by.1.adds; ended = omega (arith, ends_then, high) }) (omega (arith, ends_then, low, e)))
             | inr k ↦ both_ways (deletes_at t plan (suc n) p) (k.1 (suc n) (omega arith) (omega (arith, e, le))).0
-                (subst (λ x. deletes_at t plan x p ≡ true) (sym e) (deletes_from t plan d p l del)) ]
+                (subst (λ x. deletes_at t plan x p ≡ true) (sym e) (deletes_from t plan d p l del))
+          ]
 
   -- where w supplies what u needs, another that deletes it ends before w begins or begins after u ends
   pub cleared : (d p : ℕ) (w u : Who) → d < length plan → IsWithin plan u → Contains (action_of t (occurrence_at plan d)).dele p → Contains (needs_of t (kind_who plan u)) p →
@@ -142,18 +143,21 @@ module _ (t : TaskShape) (b : Tables) (plan : List Occ) (ok : IsAdmissible t b) 
       early u begin lu need sup nw e = absurd (gone d p (begins t plan u) l del e (λ j a k. sup j a) (held u p lu need))
       early u finish lu need sup nw e = absurd sup
       early u (place c) lu need sup nw e =
-          elim (apart d c l sup.adder.within (λ k. nw (ap place k)) (inl (inr (p, del, sup.adder.adds))))
-            [ inl done ↦ record { different = nw; forward = λ k. (let k0 = k.0 in cc); first = done }
+          elim (apart d c l sup.adder.within (λ k. nw (ap place k)) (inl (inr (p, del, sup.adder.adds)))) [
+            | inl done ↦ record { different = nw; forward = λ k. (let k0 = k.0 in cc); first = done }
             | inr late ↦ absurd (gone d p (begins t plan u) l del e
                 (λ j a k. let s = strict d l in elim (sup.last j a) [ inl x ↦ omega (arith, x, k, s, late) | inr x ↦ (let y = x.0 in omega (arith, y, k, s, late)) ])
-                (held u p lu need)) ]
+                (held u p lu need))
+          ]
+
       go : (u : Who) → IsWithin plan u → Contains (needs_of t (kind_who plan u)) p → Supplies t plan p (begins t plan u) w → place d ≢ u → IsAhead t plan (place d) w ⊎ IsAhead t plan u (place d)
       go begin lu need sup nu = absurd (nil_has p need)
       go finish lu need sup nu = inl (early finish w lu need sup nw (end_le t plan d l))
       go (place x) lu need sup nu =
-          elim (apart d x l lu (λ k. nu (ap place k)) (inl (inl (p, del, need))))
-            [ inl e ↦ inl (early (place x) w lu need sup nw e)
-            | inr e ↦ inr (record { different = λ k. nu (sym k); forward = λ k. (let k0 = k.0 in cc); first = e }) ]
+          elim (apart d x l lu (λ k. nu (ap place k)) (inl (inl (p, del, need)))) [
+            | inl e ↦ inl (early (place x) w lu need sup nw e)
+            | inr e ↦ inr (record { different = λ k. nu (sym k); forward = λ k. (let k0 = k.0 in cc); first = e })
+          ]
 
   -- who supplies what u needs is ahead of u
   pub supplies_ahead : (p : ℕ) (w u : Who) → IsWithin plan u → Contains (needs_of t (kind_who plan u)) p → Supplies t plan p (begins t plan u) w → IsAhead t plan w u
@@ -164,9 +168,10 @@ module _ (t : TaskShape) (b : Tables) (plan : List Occ) (ok : IsAdmissible t b) 
   supplies_ahead p (place i) finish l need sup = record { different = λ k. cc; forward = λ k. (let k0 = k.0 in cc); first = sup.adder.ended }
   supplies_ahead p (place i) (place x) l need sup = record {
     different = λ k. (let k' : i ≡ x = cc in let s = strict i sup.adder.within in let e = sup.adder.ended in
-      let q : (occurrence_at plan i).start ≡ (occurrence_at plan x).start = ap (λ z. (occurrence_at plan z).start) k' in omega (arith, s, e, q));
+        let q : (occurrence_at plan i).start ≡ (occurrence_at plan x).start = ap (λ z. (occurrence_at plan z).start) k' in omega (arith, s, e, q));
     forward = λ k. (let k0 = k.0 in cc);
-    first = sup.adder.ended }
+    first = sup.adder.ended;
+  }
 
   pub supplies_within : (p m : ℕ) (w : Who) → Supplies t plan p m w → IsWithin plan w
   supplies_within p m begin sup = tt
@@ -176,11 +181,12 @@ module _ (t : TaskShape) (b : Tables) (plan : List Occ) (ok : IsAdmissible t b) 
   -- who supplies what holds adds it
   pub supplies_adds : (p m : ℕ) (w : Who) → HoldsThen t plan m p → Supplies t plan p m w → Contains (adds_of t (kind_who plan w)) p
   supplies_adds p m begin h sup =
-      elim (since t plan p 0 m (omega arith) h)
-        [ inl a ↦ (let by = added_by t plan a.0 p a.3 in
-                   let ends_then : end_of t (occurrence_at plan by.0) ≡ a.0 = by.1.ends in let high : a.0 ≤ m = a.2 in
-                   absurd (sup by.0 (record { within = by.1.within; adds = by.1.adds; ended = omega (arith, ends_then, high) })))
-        | inr k ↦ contains_from_in t.init p k.0 ]
+      elim (since t plan p 0 m (omega arith) h) [
+        | inl a ↦ (let by = added_by t plan a.0 p a.3 in
+            let ends_then : end_of t (occurrence_at plan by.0) ≡ a.0 = by.1.ends in let high : a.0 ≤ m = a.2 in
+            absurd (sup by.0 (record { within = by.1.within; adds = by.1.adds; ended = omega (arith, ends_then, high) })))
+        | inr k ↦ contains_from_in t.init p k.0
+      ]
   supplies_adds p m finish h sup = absurd sup
   supplies_adds p m (place i) h sup = sup.adder.adds
 
@@ -193,9 +199,10 @@ supplies_one t plan p m finish w h k = absurd h
 supplies_one t plan p m (place i) begin h k = absurd (k i h.adder)
 supplies_one t plan p m (place i) finish h k = absurd k
 supplies_one t plan p m (place i) (place j) h k =
-    ap place (elim (h.last j k.adder)
-      [ inl a ↦ elim (k.last i h.adder) [ inl c ↦ absurd (omega (arith, a, c)) | inr c ↦ (let c0 = c.0 in absurd (omega (arith, a, c0))) ]
-      | inr a ↦ elim (k.last i h.adder) [ inl c ↦ (let a0 = a.0 in absurd (omega (arith, a0, c))) | inr c ↦ (let a1 = a.1 in let c1 = c.1 in omega (arith, a1, c1)) ] ])
+    ap place (elim (h.last j k.adder) [
+      | inl a ↦ elim (k.last i h.adder) [ inl c ↦ absurd (omega (arith, a, c)) | inr c ↦ (let c0 = c.0 in absurd (omega (arith, a, c0))) ]
+      | inr a ↦ elim (k.last i h.adder) [ inl c ↦ (let a0 = a.0 in absurd (omega (arith, a0, c))) | inr c ↦ (let a1 = a.1 in let c1 = c.1 in omega (arith, a1, c1)) ]
+    ])
 
 -- the last adder among the first n places
 abbrev Among : TaskShape → List Occ → ℕ → ℕ → ℕ → Type 0
@@ -203,11 +210,13 @@ Among t plan p m n = ((j : ℕ) → j < n → IsAdder t plan p m j → ⊥) ⊎ 
 
 adder_cases : (t : TaskShape) (plan : List Occ) (p m j : ℕ) → j < length plan → IsAdder t plan p m j ⊎ (IsAdder t plan p m j → ⊥)
 adder_cases t plan p m j l =
-    elim (contains_cases (action_of t (occurrence_at plan j)).add p)
-      [ inr never ↦ inr (λ a. never a.adds)
-      | inl has ↦ elim (cases_lt m (end_of t (occurrence_at plan j)))
-          [ inl late ↦ inr (λ a. let e = a.ended in omega (arith, e, late))
-          | inr e ↦ inl (record { within = l; adds = has; ended = e }) ] ]
+    elim (contains_cases (action_of t (occurrence_at plan j)).add p) [
+      | inr never ↦ inr (λ a. never a.adds)
+      | inl has ↦ elim (cases_lt m (end_of t (occurrence_at plan j))) [
+        | inl late ↦ inr (λ a. let e = a.ended in omega (arith, e, late))
+        | inr e ↦ inl (record { within = l; adds = has; ended = e })
+      ]
+    ]
 
 among : (t : TaskShape) (plan : List Occ) (p m n : ℕ) → n ≤ length plan → Among t plan p m n
 among t plan p m zero b = inl (λ j l a. omega arith)
@@ -218,21 +227,36 @@ among t plan p m (suc n) b = go (among t plan p m n (omega arith)) (adder_cases 
     go (inl none) (inl add) = inr (n, omega arith, add, λ j l a. elim (cases_eq j n) [ inl e ↦ inr (ap (λ z. end_of t (occurrence_at plan z)) e, omega (arith, e)) | inr e ↦ absurd (none j (omega (arith, l, e)) a) ])
     go (inr some) (inr no_n) = inr (some.0, (let l = some.1 in omega (arith, l)), some.2, λ j l a. elim (cases_eq j n) [ inl e ↦ absurd (no_n (subst (IsAdder t plan p m) e a)) | inr e ↦ some.3 j (omega (arith, l, e)) a ])
     go (inr some) (inl add) =
-        elim (cases_lt (end_of t (occurrence_at plan some.0)) (end_of t (occurrence_at plan n)))
-          [ inl late ↦ inr (n, omega arith, add, λ j l a. elim (cases_eq j n)
-              [ inl e ↦ inr (ap (λ z. end_of t (occurrence_at plan z)) e, omega (arith, e))
-              | inr e ↦ elim (some.3 j (omega (arith, l, e)) a) [ inl k ↦ inl (omega (arith, k, late)) | inr k ↦ inl (let k0 = k.0 in omega (arith, k0, late)) ] ])
-          | inr early ↦ inr (some.0, (let l = some.1 in omega (arith, l)), some.2, λ j l a. elim (cases_eq j n)
-              [ inl e ↦ elim (cases_eq (end_of t (occurrence_at plan n)) (end_of t (occurrence_at plan some.0)))
-                  [ inl k ↦ inr (ap (λ z. end_of t (occurrence_at plan z)) e ∙ k, (let l' = some.1 in omega (arith, l', e)))
-                  | inr k ↦ inl (let e' : end_of t (occurrence_at plan j) ≡ end_of t (occurrence_at plan n) = ap (λ z. end_of t (occurrence_at plan z)) e in omega (arith, e', k, early)) ]
-              | inr e ↦ some.3 j (omega (arith, l, e)) a ]) ]
+        elim (cases_lt (end_of t (occurrence_at plan some.0)) (end_of t (occurrence_at plan n))) [
+          | inl late ↦ inr (
+            n,
+            omega arith,
+            add,
+            λ j l a. elim (cases_eq j n) [
+              | inl e ↦ inr (ap (λ z. end_of t (occurrence_at plan z)) e, omega (arith, e))
+              | inr e ↦ elim (some.3 j (omega (arith, l, e)) a) [ inl k ↦ inl (omega (arith, k, late)) | inr k ↦ inl (let k0 = k.0 in omega (arith, k0, late)) ]
+            ],
+          )
+          | inr early ↦ inr (
+            some.0,
+            (let l = some.1 in omega (arith, l)),
+            some.2,
+            λ j l a. elim (cases_eq j n) [
+              | inl e ↦ elim (cases_eq (end_of t (occurrence_at plan n)) (end_of t (occurrence_at plan some.0))) [
+                | inl k ↦ inr (ap (λ z. end_of t (occurrence_at plan z)) e ∙ k, (let l' = some.1 in omega (arith, l', e)))
+                | inr k ↦ inl (let e' : end_of t (occurrence_at plan j) ≡ end_of t (occurrence_at plan n) = ap (λ z. end_of t (occurrence_at plan z)) e in omega (arith, e', k, early))
+              ]
+              | inr e ↦ some.3 j (omega (arith, l, e)) a
+            ],
+          )
+        ]
 
 -- who supplies the atom before a moment
 pub supplier : (t : TaskShape) (plan : List Occ) (p m : ℕ) → (w : Who) × Supplies t plan p m w
-supplier t plan p m = elim (among t plan p m (length plan) (omega arith))
-  [ inl none ↦ (begin, λ j a. none j a.within a)
-  | inr some ↦ (place some.0, record { adder = some.2; last = λ j a. some.3 j a.within a }) ]
+supplier t plan p m = elim (among t plan p m (length plan) (omega arith)) [
+  | inl none ↦ (begin, λ j a. none j a.within a)
+  | inr some ↦ (place some.0, record { adder = some.2; last = λ j a. some.3 j a.within a })
+]
 
 pub gaps_kept : GapsKept
 gaps_kept t b plan ok valid = keeps_gaps t b plan ok valid

@@ -1,5 +1,5 @@
 -- a closed tree refutes
-use Rattle.std.proofs.Common.{ℕ, List, length, Contains}
+use Rattle.std.proofs.Common.{ℕ, List, length}
 use Rattle.cpt_task.specs.declared.plan.Occ.{Occ}
 use Rattle.cpt_task.specs.Shape.{TaskShape}
 use Rattle.cpt_task.specs.Timeline.{IsValid}

@@ -21,7 +21,7 @@ pub data IsClosedTree (t : TaskShape) (b : Tables) : Sheet → Type 0 where
   close : (s : Sheet) → IsFormed t s → IsDead s → IsClosedTree t b s
   narrow : (s : Sheet) (step : Step) → IsFormed t s → IsLegal t b s step → IsClosedTree t b (narrowed s step) → IsClosedTree t b s
   branch : (s : Sheet) (flaw : Flaw) → IsFormed t s → IsFlaw t s flaw →
-    ((d : Decision) → Contains (children s flaw) d → IsClosedTree t b (applied t s d)) → IsClosedTree t b s
+      ((d : Decision) → Contains (children s flaw) d → IsClosedTree t b (applied t s d)) → IsClosedTree t b s
 
 -- where a closed tree stands over the root of a bound, no valid plan has a makespan of at most that bound
 abbrev pub TreeRefutes : Type 0

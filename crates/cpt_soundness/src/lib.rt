@@ -4,4 +4,6 @@
 
 mod laws;
 
-pub use laws::{children_cover, dead_admits_none, gaps_kept, narrow_keeps, root_admits, tree_refutes};
+pub use laws::{
+    children_cover, dead_admits_none, gaps_kept, narrow_keeps, root_admits, tree_refutes,
+};
