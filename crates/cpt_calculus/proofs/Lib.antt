@@ -1,0 +1,12 @@
+pub mod Behind
+pub mod Below
+pub mod Confluence
+pub mod Inserts
+pub mod Keeps
+pub mod Monotone
+pub mod Orders
+pub mod Parts
+pub mod Stays
+pub mod Takes
+pub mod Views
+pub mod Zips

@@ -2,5 +2,6 @@ pub mod Closing
 pub mod Decisions
 pub mod Flaws
 pub mod Plans
+pub mod Places
 pub mod Root
 pub mod Rules

@@ -46,7 +46,7 @@ fn is_no_later(a: Span, b: Span) -> bool
 }
 
 /// The one token of a list that is one token.
-fn one_token(list: &[Cand]) -> Option<u32>
+pub(crate) fn one_token(list: &[Cand]) -> Option<u32>
     ensures { MatchOption result ((y : ℕ) → IsToken list.now y → ⊥) (λ y. IsToken list.now y) }
 {
     match list {
@@ -162,7 +162,7 @@ fn is_step8(
 }
 
 /// The token whose place `d` threatens, where it does.
-fn threatened(task: &Task, sheet: &Sheet, x: u32, p: u32, d: u32) -> Option<u32>
+pub(crate) fn threatened(task: &Task, sheet: &Sheet, x: u32, p: u32, d: u32) -> Option<u32>
     ensures { MatchOption result ((y : ℕ) → IsThreatOf task.now sheet.now x p d y → ⊥) (IsThreatOf task.now sheet.now x p d) }
 {
     let y = one_token(list(sheet, x, p))?;
@@ -486,7 +486,7 @@ fn is_allowed(task: &Task, tables: &Tables, sheet: &Sheet, step: Step) -> bool
     }
 }
 
-fn first_token(list: &[Cand]) -> u32
+pub(crate) fn first_token(list: &[Cand]) -> u32
     ensures { result ≡ only list.now }
 {
     match list {

@@ -1,5 +1,5 @@
 -- what a formed sheet says of its tokens
-use Rattle.std.proofs.Common.{◌≡◌, ℕ, suc, zero, ◌+◌, ◌<◌, ◌≤◌, ◌⊎◌, ◌^◌, lit≤, inl, inr, List, [], ◌∷◌, length, slice_get, unwrap_or, Some, None, All, refl, sym, subst, ap, ◌∙◌, arith}
+use Rattle.std.proofs.Common.{◌≡◌, ℕ, suc, zero, ◌≤◌, ◌^◌, lit≤, inl, inr, List, [], ◌∷◌, length, slice_get, unwrap_or, All, refl, sym, subst, ◌∙◌, arith}
 use Rattle.std.proofs.lemmas.Bool.{cases_lt}
 use Rattle.std.proofs.lemmas.Option.{unwrap_or-slice_get}
 use Rattle.std.proofs.lemmas.List.{get_or_default}
@@ -11,10 +11,9 @@ use Rattle.cpt_tables.proofs.SpanLemmas.{below_more}
 use Rattle.cpt_sheet.specs.declared.data.Cand.{Cand}
 use Rattle.cpt_sheet.specs.declared.data.Cand.TheVariants.{Tok, Out}
 use Rattle.cpt_sheet.specs.declared.data.Kind.{Kind}
-use Rattle.cpt_sheet.specs.declared.data.Kind.TheVariants.{Start, End, Act}
 use Rattle.cpt_sheet.specs.declared.data.Sheet.{Sheet}
 use Rattle.cpt_sheet.specs.Roles.{IsKindOf}
-use Rattle.cpt_sheet.specs.View.{kind_of, token_at, no_token, lo}
+use Rattle.cpt_sheet.specs.View.{kind_of, no_token, lo}
 use Rattle.cpt_sheet.specs.Formed.{IsFormed, IsActionOf}
 
 pub at_past : {X : Type 0} (xs : List X) (d : X) (i : ℕ) → length xs ≤ i → unwrap_or (slice_get xs i) d ≡ d
@@ -30,9 +29,10 @@ pub kind_there : (t : TaskShape) (s : Sheet) (x : ℕ) → IsFormed t s → IsKi
 kind_there t s zero h = subst (λ k. IsKindOf t k) (sym h.start) tt
 kind_there t s (suc zero) h = subst (λ k. IsKindOf t k) (sym h.end) tt
 kind_there t s (suc (suc x)) h =
-    elim (cases_lt (suc (suc x)) (length s.tokens))
-      [ inl l ↦ action_there t (kind_of s (Tok (suc (suc x)))) (h.actions (suc (suc x)) (omega arith) l)
-      | inr m ↦ subst (λ z. IsKindOf t z.kind) (sym (at_past s.tokens no_token (suc (suc x)) m)) tt ]
+    elim (cases_lt (suc (suc x)) (length s.tokens)) [
+      | inl l ↦ action_there t (kind_of s (Tok (suc (suc x)))) (h.actions (suc (suc x)) (omega arith) l)
+      | inr m ↦ subst (λ z. IsKindOf t z.kind) (sym (at_past s.tokens no_token (suc (suc x)) m)) tt
+    ]
 
 -- no moment is so great that a sum with a gap does not fit
 pub lo_below : (t : TaskShape) (s : Sheet) (c : Cand) → IsFormed t s → IsBelow 4000000000000000 (lo s c)

@@ -7,7 +7,7 @@ use Rattle.cpt_sheet.specs.declared.data.Kind.{Kind}
 use Rattle.cpt_sheet.specs.declared.data.Kind.TheVariants.{Start, End, Act}
 use Rattle.cpt_sheet.specs.declared.data.Sheet.{Sheet}
 use Rattle.cpt_sheet.specs.Roles.{needs_of, Adds}
-use Rattle.cpt_sheet.specs.View.{token_at, lo, hi, kind_of, has, has_need, cands, has_order, before, pair_lt}
+use Rattle.cpt_sheet.specs.View.{token_at, lo, hi, kind_of, has, cands, has_order, before, pair_lt}
 
 -- an action of the task
 abbrev pub IsActionOf : TaskShape → Kind → Type 0

@@ -1,12 +1,12 @@
-use Rattle.std.specs.Prelude.{ℕ, Bool, true, false, ◌==◌, ◌&&◌, ◌||◌, nat_lt, List, [], ◌∷◌, slice_get, unwrap_or, slice_set, if◌then◌else◌}
+use Rattle.std.specs.Prelude.{ℕ, Bool, false, ◌==◌, ◌&&◌, ◌||◌, nat_lt, List, [], slice_get, unwrap_or}
 use Rattle.std.specs.List.{list_any, find}
 use Rattle.std.specs.Option.{option_map_or}
 use Rattle.cpt_task.specs.declared.span.Span.{Span}
-use Rattle.cpt_task.specs.declared.span.Span.TheVariants.{At, Never}
+use Rattle.cpt_task.specs.declared.span.Span.TheVariants.{Never}
 use Rattle.cpt_sheet.specs.declared.data.Cand.{Cand}
 use Rattle.cpt_sheet.specs.declared.data.Cand.TheVariants.{Tok, Out}
 use Rattle.cpt_sheet.specs.declared.data.Kind.{Kind}
-use Rattle.cpt_sheet.specs.declared.data.Kind.TheVariants.{Start, End, Act}
+use Rattle.cpt_sheet.specs.declared.data.Kind.TheVariants.{Start, Act}
 use Rattle.cpt_sheet.specs.declared.data.Interval.{Interval}
 use Rattle.cpt_sheet.specs.declared.data.Need.{Need}
 use Rattle.cpt_sheet.specs.declared.data.Token.{Token}

@@ -80,19 +80,45 @@ pub enum Flaw {
 #[derive(Clone, Copy, Debug, PartialEq, Eq)]
 pub enum Step {
     /// The second token begins no earlier than after the first.
-    R1 { first: u32, second: u32, to: Span },
+    R1 {
+        first: u32,
+        second: u32,
+        to: Span,
+    },
     /// The first token begins early enough for the second.
-    R2 { first: u32, second: u32, to: Span },
+    R2 {
+        first: u32,
+        second: u32,
+        to: Span,
+    },
     /// Of two tokens that interfere the second cannot come first.
-    R3 { first: u32, second: u32 },
+    R3 {
+        first: u32,
+        second: u32,
+    },
     /// The token begins no earlier than after who adds the atom.
-    R4 { tok: u32, pre: u32, to: Span },
+    R4 {
+        tok: u32,
+        pre: u32,
+        to: Span,
+    },
     /// The candidate cannot come before the token.
-    R5 { tok: u32, pre: u32, cand: Cand },
+    R5 {
+        tok: u32,
+        pre: u32,
+        cand: Cand,
+    },
     /// The only candidate comes before the token.
-    R6 { tok: u32, pre: u32 },
+    R6 {
+        tok: u32,
+        pre: u32,
+    },
     /// The outside action has no moment left.
-    R7 { tok: u32, pre: u32, act: u32 },
+    R7 {
+        tok: u32,
+        pre: u32,
+        act: u32,
+    },
     /// A token that deletes the atom stands between the candidate and the token.
     R8 {
         tok: u32,
@@ -101,11 +127,23 @@ pub enum Step {
         foe: u32,
     },
     /// A token that deletes the atom comes after the token.
-    R9After { tok: u32, pre: u32, foe: u32 },
+    R9After {
+        tok: u32,
+        pre: u32,
+        foe: u32,
+    },
     /// A token that deletes the atom comes before who adds it.
-    R9Ahead { tok: u32, pre: u32, foe: u32 },
+    R9Ahead {
+        tok: u32,
+        pre: u32,
+        foe: u32,
+    },
     /// The outside action begins no earlier than after who adds the atom.
-    R10 { act: u32, pre: u32, to: Span },
+    R10 {
+        act: u32,
+        pre: u32,
+        to: Span,
+    },
     /// The outside action, which deletes the atom, comes after the token.
     R11After {
         tok: u32,
@@ -121,9 +159,17 @@ pub enum Step {
         to: Span,
     },
     /// The outside action, which interferes with the token, comes after it.
-    R12After { tok: u32, act: u32, to: Span },
+    R12After {
+        tok: u32,
+        act: u32,
+        to: Span,
+    },
     /// The outside action, which interferes with the token, comes before it.
-    R12Ahead { tok: u32, act: u32, to: Span },
+    R12Ahead {
+        tok: u32,
+        act: u32,
+        to: Span,
+    },
     /// The candidate goes with no candidate for another precondition.
     R13 {
         tok: u32,

@@ -12,20 +12,8 @@ ghost use Rattle.cpt_sheet.specs.View.{kind_of, lo, hi, same, span_of};
 use crate::data::{Cand, Interval, Kind, Sheet};
 use crate::read::{is_ordered, is_same, kind, span};
 use crate::roles::{action_at, clash, deletes, needs_of};
-use cpt_tables::{DistTable, Tables, add_spans, exceeds, greater_span, set_span};
+use cpt_tables::{Tables, add_spans, dist_to, exceeds, set_span};
 use cpt_task::{Span, Task};
-
-fn dist_to(dists: &DistTable, act: u32, atoms: &[u32]) -> Span
-    requires act { act < dists.now.actions }
-    requires atoms { All (λ p. p < dists.now.atoms) atoms.now }
-    ensures { result ≡ most_dist dists.now act atoms.now }
-{
-    let mut most = Span::At(0);
-    for p in atoms {
-        most = greater_span(most, dists.get(act, *p));
-    }
-    most
-}
 
 #[tactic(auto, using(crate::proofs::GapLemmas::dist_below_more, crate::proofs::GapLemmas::after_below))]
 fn reach_after(task: &Task, tables: &Tables, act: u32, atoms: &[u32]) -> Span

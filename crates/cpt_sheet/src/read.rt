@@ -5,7 +5,7 @@ ghost use Rattle.std.specs.Prelude.{◌≡◌, ◌==◌, MatchBool, ℕ};
 ghost use Rattle.std.specs.List.{find};
 ghost use Rattle.std.specs.Option.{option_copied};
 ghost use Rattle.cpt_sheet.specs.Live.{IsOpen, IsShut};
-ghost use Rattle.cpt_sheet.specs.View.{kind_of, cands, has_need, before, has, span_of, same, list_for, pair_lt, token_at};
+ghost use Rattle.cpt_sheet.specs.View.{kind_of, cands, has_need, before, has_order, has, span_of, same, list_for, pair_lt, token_at};
 ghost use Rattle.cpt_sheet.specs.Gaps.{ordered};
 
 use crate::data::{Cand, Interval, Kind, Need, Sheet};
@@ -38,15 +38,18 @@ pub fn kind(sheet: &Sheet, c: Cand) -> Kind
     }
 }
 
+/// Whether the order is among these.
+pub fn is_posted(orders: &[(u32, u32)], first: u32, second: u32) -> bool
+    ensures { result ≡ has_order first second orders.now }
+{
+    orders.iter().any(|o| o.0 == first && o.1 == second)
+}
+
 /// Whether the first token ends before the second begins.
 pub fn stands(sheet: &Sheet, first: u32, second: u32) -> bool
     ensures { result ≡ before sheet.now first second }
 {
-    sheet
-        .orders
-        .as_slice()
-        .iter()
-        .any(|o| o.0 == first && o.1 == second)
+    is_posted(sheet.orders.as_slice(), first, second)
 }
 
 /// Whether both are tokens, and the first ends before the second begins.

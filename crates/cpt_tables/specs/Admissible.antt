@@ -38,7 +38,8 @@ IsLimitByOne t h p q v = (c : Action) × Contains t.actions c × Contains c.add 
 abbrev pub IsLimitBeside : TaskShape → PairShape → ℕ → ℕ → Span → Type 0
 IsLimitBeside t h p q v = (c : Action) × Contains t.actions c × Contains c.add p × Leaves c q × (v ≡ limit_beside h c q)
 
--- of two actions that do not interfere, the one adds p and the other adds q
+-- of two actions that do not interfere, the one adds p and the other adds q (where the two are one action, this is
+-- the right side that it gives what it adds)
 abbrev pub IsLimitByTwo : TaskShape → PairShape → ℕ → ℕ → Span → Type 0
 IsLimitByTwo t h p q v =
     (c : Action) × (d : Action) × Contains t.actions c × Contains t.actions d × (Interferes c d → ⊥) × Contains c.add p × Contains d.add q × (v ≡ limit_by_two h c d)

@@ -48,6 +48,14 @@ with_pair h p q v = record { atoms = h.atoms; values = slice_set h.values (pair_
 abbrev pub with_dist : DistShape → ℕ → ℕ → Span → DistShape
 with_dist d a p v = record { actions = d.actions; atoms = d.atoms; values = slice_set d.values (a * d.atoms + p) v }
 
+-- the table has a value for each pair
+abbrev pub IsWholePairs : PairShape → Type 0
+IsWholePairs h = length h.values ≡ row_start h.atoms
+
+-- the table has a value for each action and atom
+abbrev pub IsWholeDists : DistShape → Type 0
+IsWholeDists d = length d.values ≡ d.actions * d.atoms
+
 -- one value everywhere
 abbrev pub IsFilledPairs : PairShape → Span → Type 0
 IsFilledPairs h v = (p q : ℕ) → p < h.atoms → q < h.atoms → pair_at h p q ≡ v

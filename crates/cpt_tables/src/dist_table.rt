@@ -2,7 +2,7 @@
 
 ghost use Rattle.std.specs.Prelude.{◌≡◌, ◌+◌, ◌*◌, ◌<◌, ◌≤◌, IfOk};
 ghost use Rattle.cpt_tables.specs.Spans.{IsBelow};
-ghost use Rattle.cpt_tables.specs.Shapes.{dist_at, dists_of, with_dist, SetsDist, IsFilledDists, IsSmallDists};
+ghost use Rattle.cpt_tables.specs.Shapes.{dist_at, dists_of, with_dist, SetsDist, IsFilledDists, IsSmallDists, IsWholeDists};
 
 use cpt_task::{Memory, Span};
 use std::alloc::Global;
@@ -57,6 +57,7 @@ impl DistTable {
     pub fn atoms(&self) -> u32
         ensures value { result ≡ self.now.atoms }
         ensures few { result ≤ 2048 }
+        ensures whole { IsWholeDists self.now }
     {
         self.atoms
     }

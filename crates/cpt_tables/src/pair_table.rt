@@ -2,7 +2,7 @@
 
 ghost use Rattle.std.specs.Prelude.{◌≡◌, ◌<◌, ◌≤◌, IfOk};
 ghost use Rattle.cpt_tables.specs.Spans.{IsBelow};
-ghost use Rattle.cpt_tables.specs.Shapes.{pair_at, pair_place, pairs_of, with_pair, SetsPair, IsFilledPairs, IsSmallPairs};
+ghost use Rattle.cpt_tables.specs.Shapes.{pair_at, pair_place, pairs_of, with_pair, SetsPair, IsFilledPairs, IsSmallPairs, IsWholePairs};
 
 use cpt_task::{Memory, Span};
 use std::alloc::Global;
@@ -54,6 +54,7 @@ impl PairTable {
     pub fn atoms(&self) -> u32
         ensures value { result ≡ self.now.atoms }
         ensures few { result ≤ 2048 }
+        ensures whole { IsWholePairs self.now }
     {
         self.atoms
     }

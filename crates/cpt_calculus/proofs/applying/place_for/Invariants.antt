@@ -1,0 +1,6 @@
+use Rattle.std.proofs.Common.{◌≡◌, ℕ, ◌<◌, ◌==◌, false, slice_get, unwrap_or}
+use Rattle.cpt_sheet.specs.View.{no_need}
+use Rattle.cpt_calculus.proofs.applying.place_for.Given as goal
+
+abbrev pub invariant-loop-i : goal.invariant-loop-i
+invariant-loop-i l = (k : ℕ) → k < l.i → ((unwrap_or (slice_get l.needs k) no_need).atom == l.atom) ≡ false
