@@ -12,9 +12,9 @@ use Rattle.cpt_sheet.specs.declared.data.Token.{Token}
 use Rattle.cpt_sheet.specs.declared.data.Sheet.{Sheet}
 use Rattle.cpt_sheet.specs.declared.data.Decision.TheVariants.{Bring}
 use Rattle.cpt_sheet.specs.View.{no_token, token_at, span_of, kind_of, cands, list_for, has_atom, has_need, before, has_order, has, same}
-use Rattle.cpt_sheet.specs.Edits.{posted}
+use Rattle.cpt_sheet.specs.Edits.{posted, revised, with_list}
 use Rattle.cpt_calculus.specs.Decisions.{behind_tokens, beside, offer, offered, with_offers, joined, with_new, brought, applied}
-use Rattle.cpt_soundness.proofs.ViewLemmas.{same_self, list_cons, order_posted, span_with_list, kind_with_list, count_with_list, need_with_list, cands_with_list}
+use Rattle.cpt_soundness.proofs.ViewLemmas.{part_with, same_self, list_cons, order_posted, span_with_list, kind_with_list, count_with_list, need_with_list, cands_with_list}
 
 -- the list with the new token beside the outside action
 behind_new : (n : ℕ) (cs : List Cand) → has (Tok n) (behind_tokens n cs) ≡ true
@@ -51,6 +51,16 @@ offer_list a n q (m ∷ ns) =
 offer_atom : (a n q : ℕ) (ns : List Need) → has_atom q (map (offer a n) ns) ≡ has_atom q ns
 offer_atom a n q [] = refl
 offer_atom a n q (m ∷ ns) = ap (λ b. (m.atom == q) || b) (offer_atom a n q ns)
+
+offered_atoms : (a n : ℕ) (ns : List Need) → map (λ (m : Need). m.atom) (map (offer a n) ns) ≡ map (λ (m : Need). m.atom) ns
+offered_atoms a n [] = refl
+offered_atoms a n (m ∷ ns) = ap (λ l. m.atom ∷ l) (offered_atoms a n ns)
+
+revised_atoms : (p : ℕ) (g : List Cand → List Cand) (ns : List Need) → map (λ (m : Need). m.atom) (revised p g ns) ≡ map (λ (m : Need). m.atom) ns
+revised_atoms p g [] = refl
+revised_atoms p g (n ∷ ns) =
+    elim (n.atom == p) as (λ b. map (λ (m : Need). m.atom) (if b then (record n { cands = g n.cands } ∷ ns) else (n ∷ revised p g ns)) ≡ map (λ (m : Need). m.atom) (n ∷ ns))
+      [ true ↦ refl | false ↦ ap (λ l. n.atom ∷ l) (revised_atoms p g ns) ]
 
 map_at : (a n : ℕ) (zs : List Token) (x : ℕ) → unwrap_or (slice_get (map (offered a n) zs) x) no_token ≡ offered a n (unwrap_or (slice_get zs x) no_token)
 map_at a n [] x = refl
@@ -126,3 +136,13 @@ module _ (t : TaskShape) (s : Sheet) (x p a : ℕ) where
               | inr k2 ↦ elim (order_posted 0 n y z s.orders k2) [ inl e ↦ inr (inl (sym e.0, sym e.1)) | inr k3 ↦ inr (inr k3) ]
             ]
           ]
+
+  pub bring_posted : (applied t s (Bring x p a)).orders ≡ posted (length s.tokens) x (posted (length s.tokens) 1 (posted 0 (length s.tokens) s.orders))
+  bring_posted = ap (λ n. posted n x (posted n 1 (posted 0 n s.orders))) base_count
+
+  pub bring_atoms : (y : ℕ) → y < length s.tokens → map (λ (n : Need). n.atom) (token_at (applied t s (Bring x p a)) y).lists ≡ map (λ (n : Need). n.atom) (token_at s y).lists
+  bring_atoms y l =
+      ap (λ (z : Token). map (λ (n : Need). n.atom) z.lists) (old y l)
+      ∙ (part_with (λ (z : Token). map (λ (n : Need). n.atom) z.lists) (with_offers s a (length s.tokens)) x (record (token_at (with_offers s a (length s.tokens)) x) { lists = revised p (λ cs. Tok (length s.tokens) ∷ []) (token_at (with_offers s a (length s.tokens)) x).lists })
+          (revised_atoms p (λ cs. Tok (length s.tokens) ∷ []) (token_at (with_offers s a (length s.tokens)) x).lists) y
+      ∙ (ap (λ (z : Token). map (λ (n : Need). n.atom) z.lists) (map_at a (length s.tokens) s.tokens y) ∙ offered_atoms a (length s.tokens) (token_at s y).lists))

@@ -51,7 +51,7 @@ choice_there x p c (d ∷ cs) h =
     ]
 
 -- an atom with a list that is not empty is a precondition
-listed : (p : ℕ) (ns : List Need) → list_for p ns ≢ [] → has_atom p ns ≡ true
+pub listed : (p : ℕ) (ns : List Need) → list_for p ns ≢ [] → has_atom p ns ≡ true
 listed p [] ne = absurd (ne refl)
 listed p (n ∷ ns) ne = go (n.atom == p) (λ e. ne (list_cons p n ns ∙ e)) (λ k. listed p ns k)
   where

@@ -10,3 +10,4 @@ pub mod RootLemmas
 pub mod BringLemmas
 pub mod CoverLemmas
 pub mod TreeLemmas
+pub mod FormedLemmas
