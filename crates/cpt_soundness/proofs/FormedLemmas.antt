@@ -185,7 +185,7 @@ posted_increasing x y os h = go (has_order x y os) refl
     go false e = increasing_with x y os e h
 
 -- a token with a candidate is there
-cand_there : (s : Sheet) (x p : ℕ) (c : Cand) → has c (cands s x p) ≡ true → x < length s.tokens
+pub cand_there : (s : Sheet) (x p : ℕ) (c : Cand) → has c (cands s x p) ≡ true → x < length s.tokens
 cand_there s x p c h =
     elim (cases_lt x (length s.tokens))
       [ inl l ↦ l

@@ -11,3 +11,5 @@ pub mod BringLemmas
 pub mod CoverLemmas
 pub mod TreeLemmas
 pub mod FormedLemmas
+pub mod RootFormedLemmas
+pub mod FitLemmas

@@ -31,11 +31,11 @@ use Rattle.cpt_soundness.proofs.PlanLemmas.{end_le, set_by, held, keeps_gaps, su
 use Rattle.cpt_soundness.proofs.ActingLemmas.{atom_there}
 use Rattle.cpt_soundness.proofs.AdderLemmas.{token_among, out_among, made_atoms, made_list}
 
-count_outs : (t : TaskShape) (b : Tables) (m n : ℕ) → length (outs_at_root t b m n) ≡ n
+pub count_outs : (t : TaskShape) (b : Tables) (m n : ℕ) → length (outs_at_root t b m n) ≡ n
 count_outs t b m zero = refl
 count_outs t b m (suc n) = let k = count_outs t b m n in length-append (outs_at_root t b m n) (out_at_root t b m n ∷ []) ∙ omega (arith, k)
 
-outs_at : (t : TaskShape) (b : Tables) (m n a : ℕ) → a < n → get_or (outs_at_root t b m n) a no_span ≡ out_at_root t b m a
+pub outs_at : (t : TaskShape) (b : Tables) (m n a : ℕ) → a < n → get_or (outs_at_root t b m n) a no_span ≡ out_at_root t b m a
 outs_at t b m zero a l = absurd (omega arith)
 outs_at t b m (suc n) a l =
     let k = count_outs t b m n in
