@@ -15,20 +15,25 @@ use Rattle.cpt_soundness.specs.Sets.{HasSets}
 use Rattle.cpt_soundness.specs.Children.{with_place, AdmitsAfter}
 use Rattle.cpt_soundness.specs.Tree.{IsClosedTree, TreeRefutes}
 use Rattle.cpt_soundness.specs.Tree.IsClosedTree.{close, narrow, branch}
+use Rattle.cpt_sheet.specs.Formed.{IsFormed}
+use Rattle.cpt_calculus.proofs.Keeps.{step_formed}
+use Rattle.cpt_soundness.proofs.FormedLemmas.{applied_formed}
+use Rattle.cpt_soundness.proofs.RootFormedLemmas.{root_formed}
+use Rattle.cpt_soundness.proofs.FitLemmas.{children_fit}
 use Rattle.cpt_soundness.proofs.NarrowLemmas.{narrow_keeps}
 use Rattle.cpt_soundness.proofs.DeadLemmas.{dead_admits_none}
 use Rattle.cpt_soundness.proofs.RootLemmas.{root_admits}
 use Rattle.cpt_soundness.proofs.CoverLemmas.{children_cover}
 
--- a sheet over which a closed tree stands admits no plan
+-- a formed sheet over which a closed tree stands admits no plan
 pub closed_admits_none : (t : TaskShape) (b : Tables) (plan : List Occ) → HasSets t → IsAdmissible t b → IsValid t plan →
-    (s : Sheet) → IsClosedTree t b s → (f : ℕ → ℕ) → Admits t plan f s → ⊥
-closed_admits_none t b plan sets ok valid s (close r formed dead) f h = dead_admits_none t b s plan f sets ok formed dead valid h
-closed_admits_none t b plan sets ok valid s (narrow r step formed legal tree) f h =
-    closed_admits_none t b plan sets ok valid _ tree f (narrow_keeps t b s step plan f ok formed legal valid h)
-closed_admits_none t b plan sets ok valid s (branch r flaw formed stands trees) f h =
+    (s : Sheet) → IsClosedTree t b s → IsFormed t s → (f : ℕ → ℕ) → Admits t plan f s → ⊥
+closed_admits_none t b plan sets ok valid s (close r dead) formed f h = dead_admits_none t b s plan f sets ok formed dead valid h
+closed_admits_none t b plan sets ok valid s (narrow r step legal tree) formed f h =
+    closed_admits_none t b plan sets ok valid _ tree (step_formed t b s step formed legal) f (narrow_keeps t b s step plan f ok formed legal valid h)
+closed_admits_none t b plan sets ok valid s (branch r flaw stands trees) formed f h =
     let c = children_cover t b s flaw plan f ok formed stands valid h in
-    after s c.0 c.2 (λ g k. closed_admits_none t b plan sets ok valid _ (trees c.0 c.1) g k)
+    after s c.0 c.2 (λ g k. closed_admits_none t b plan sets ok valid _ (trees c.0 c.1) (applied_formed t s c.0 formed (children_fit t s flaw formed stands c.0 c.1)) g k)
   where
     after : (s : Sheet) (d : Decision) → AdmitsAfter t plan f s d → ((g : ℕ → ℕ) → Admits t plan g (applied t s d) → ⊥) → ⊥
     after s (Join x p y) k none = none f k
@@ -36,4 +41,5 @@ closed_admits_none t b plan sets ok valid s (branch r flaw formed stands trees) 
     after s (Before x y) k none = none f k
 
 pub tree_refutes : TreeRefutes
-tree_refutes t b m sets ok tree plan valid short = closed_admits_none t b plan sets ok valid (root_of t b m) tree (λ x. x) (root_admits t b m plan (λ x. x) ok valid short)
+tree_refutes t b m sets ok fit few tree plan valid short =
+    closed_admits_none t b plan sets ok valid (root_of t b m) tree (root_formed t b m ok.bounds fit few) (λ x. x) (root_admits t b m plan (λ x. x) ok valid short)

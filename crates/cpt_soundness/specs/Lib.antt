@@ -4,3 +4,4 @@ pub mod Laws
 pub mod Sets
 pub mod Children
 pub mod Tree
+pub mod Forming

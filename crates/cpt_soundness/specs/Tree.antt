@@ -1,4 +1,4 @@
-use Rattle.std.specs.Prelude.{ℕ, Contains}
+use Rattle.std.specs.Prelude.{ℕ, ◌≤◌, Contains}
 use Rattle.cpt_task.specs.Shape.{TaskShape}
 use Rattle.cpt_task.specs.Optimal.{IsRefuted}
 use Rattle.cpt_tables.specs.declared.tables.Tables.{Tables}
@@ -6,7 +6,7 @@ use Rattle.cpt_sheet.specs.declared.data.Sheet.{Sheet}
 use Rattle.cpt_sheet.specs.declared.data.Step.{Step}
 use Rattle.cpt_sheet.specs.declared.data.Decision.{Decision}
 use Rattle.cpt_sheet.specs.declared.data.Flaw.{Flaw}
-use Rattle.cpt_sheet.specs.Formed.{IsFormed}
+use Rattle.cpt_sheet.specs.Gaps.{FitsTask}
 use Rattle.cpt_sheet.specs.Live.{IsDead}
 use Rattle.cpt_calculus.specs.Rules.{IsLegal, narrowed}
 use Rattle.cpt_calculus.specs.Decisions.{applied}
@@ -15,14 +15,14 @@ use Rattle.cpt_calculus.specs.Root.{root_of}
 use Rattle.cpt_soundness.specs.Acting.{IsAdmissible}
 use Rattle.cpt_soundness.specs.Sets.{HasSets}
 
--- A closed tree of formed sheets stands over the sheet: it is dead, or a legal step leads on from it, or it has a flaw
--- and a closed tree stands over the sheet after each of the flaw's children.
+-- A closed tree stands over the sheet: it is dead, or a legal step leads on from it to a sheet with a closed tree, or
+-- it has a flaw and a closed tree stands over the sheet after each of the flaw's children.
 pub data IsClosedTree (t : TaskShape) (b : Tables) : Sheet → Type 0 where
-  close : (s : Sheet) → IsFormed t s → IsDead s → IsClosedTree t b s
-  narrow : (s : Sheet) (step : Step) → IsFormed t s → IsLegal t b s step → IsClosedTree t b (narrowed s step) → IsClosedTree t b s
-  branch : (s : Sheet) (flaw : Flaw) → IsFormed t s → IsFlaw t s flaw →
-      ((d : Decision) → Contains (children s flaw) d → IsClosedTree t b (applied t s d)) → IsClosedTree t b s
+  close : (s : Sheet) → IsDead s → IsClosedTree t b s
+  narrow : (s : Sheet) (step : Step) → IsLegal t b s step → IsClosedTree t b (narrowed s step) → IsClosedTree t b s
+  branch : (s : Sheet) (flaw : Flaw) → IsFlaw t s flaw → ((d : Decision) → Contains (children s flaw) d → IsClosedTree t b (applied t s d)) → IsClosedTree t b s
 
 -- where a closed tree stands over the root of a bound, no valid plan has a makespan of at most that bound
 abbrev pub TreeRefutes : Type 0
-TreeRefutes = (t : TaskShape) (b : Tables) (m : ℕ) → HasSets t → IsAdmissible t b → IsClosedTree t b (root_of t b m) → IsRefuted t m
+TreeRefutes =
+    (t : TaskShape) (b : Tables) (m : ℕ) → HasSets t → IsAdmissible t b → FitsTask t b → m ≤ 1000000 → IsClosedTree t b (root_of t b m) → IsRefuted t m

@@ -3,6 +3,7 @@
 ghost use Rattle.cpt_soundness.specs.Acting.{GapsKept};
 ghost use Rattle.cpt_soundness.specs.Laws.{RootAdmits, NarrowKeeps, DeadAdmitsNone};
 ghost use Rattle.cpt_soundness.specs.Children.{ChildrenCover};
+ghost use Rattle.cpt_soundness.specs.Forming.{RootFormed, NarrowFormed, ApplyFormed, ChildrenFit};
 ghost use Rattle.cpt_soundness.specs.Tree.{TreeRefutes};
 
 /// Over admissible tables every valid plan keeps the gaps: who ends before another begins leaves the gap of the
@@ -30,6 +31,26 @@ pub fn dead_admits_none()
 /// map, or, where a token is brought, with a place for it.
 pub fn children_cover()
     ensures { ChildrenCover }
+{}
+
+/// Over tables of the task's sizes the root of a bound of at most a million is formed.
+pub fn root_formed()
+    ensures { RootFormed }
+{}
+
+/// A legal step keeps a sheet formed.
+pub fn narrow_formed()
+    ensures { NarrowFormed }
+{}
+
+/// A decision that fits keeps a sheet formed.
+pub fn apply_formed()
+    ensures { ApplyFormed }
+{}
+
+/// The children of a flaw of a formed sheet fit.
+pub fn children_fit()
+    ensures { ChildrenFit }
 {}
 
 /// Where a closed tree stands over the root of a bound, of legal steps, of branches on flaws with all their children

@@ -5,5 +5,6 @@
 mod laws;
 
 pub use laws::{
-    children_cover, dead_admits_none, gaps_kept, narrow_keeps, root_admits, tree_refutes,
+    apply_formed, children_cover, children_fit, dead_admits_none, gaps_kept, narrow_formed, narrow_keeps, root_admits,
+    root_formed, tree_refutes,
 };
