@@ -12,7 +12,7 @@ use Rattle.cpt_sheet.specs.declared.data.Token.{Token}
 use Rattle.cpt_sheet.specs.declared.data.Sheet.{Sheet}
 use Rattle.cpt_sheet.specs.declared.data.Decision.TheVariants.{Bring}
 use Rattle.cpt_sheet.specs.View.{no_token, token_at, span_of, kind_of, cands, list_for, has_atom, has_need, before, has_order, has, same}
-use Rattle.cpt_sheet.specs.Edits.{posted, revised, with_list}
+use Rattle.cpt_sheet.specs.Edits.{posted, revised}
 use Rattle.cpt_calculus.specs.Decisions.{behind_tokens, beside, offer, offered, with_offers, joined, with_new, brought, applied}
 use Rattle.cpt_soundness.proofs.ViewLemmas.{part_with, same_self, list_cons, order_posted, span_with_list, kind_with_list, count_with_list, need_with_list, cands_with_list}
 
@@ -60,7 +60,7 @@ revised_atoms : (p : ℕ) (g : List Cand → List Cand) (ns : List Need) → map
 revised_atoms p g [] = refl
 revised_atoms p g (n ∷ ns) =
     elim (n.atom == p) as (λ b. map (λ (m : Need). m.atom) (if b then (record n { cands = g n.cands } ∷ ns) else (n ∷ revised p g ns)) ≡ map (λ (m : Need). m.atom) (n ∷ ns))
-      [ true ↦ refl | false ↦ ap (λ l. n.atom ∷ l) (revised_atoms p g ns) ]
+    [ true ↦ refl | false ↦ ap (λ l. n.atom ∷ l) (revised_atoms p g ns) ]
 
 map_at : (a n : ℕ) (zs : List Token) (x : ℕ) → unwrap_or (slice_get (map (offered a n) zs) x) no_token ≡ offered a n (unwrap_or (slice_get zs x) no_token)
 map_at a n [] x = refl
@@ -144,5 +144,5 @@ module _ (t : TaskShape) (s : Sheet) (x p a : ℕ) where
   bring_atoms y l =
       ap (λ (z : Token). map (λ (n : Need). n.atom) z.lists) (old y l)
       ∙ (part_with (λ (z : Token). map (λ (n : Need). n.atom) z.lists) (with_offers s a (length s.tokens)) x (record (token_at (with_offers s a (length s.tokens)) x) { lists = revised p (λ cs. Tok (length s.tokens) ∷ []) (token_at (with_offers s a (length s.tokens)) x).lists })
-          (revised_atoms p (λ cs. Tok (length s.tokens) ∷ []) (token_at (with_offers s a (length s.tokens)) x).lists) y
+      (revised_atoms p (λ cs. Tok (length s.tokens) ∷ []) (token_at (with_offers s a (length s.tokens)) x).lists) y
       ∙ (ap (λ (z : Token). map (λ (n : Need). n.atom) z.lists) (map_at a (length s.tokens) s.tokens y) ∙ offered_atoms a (length s.tokens) (token_at s y).lists))

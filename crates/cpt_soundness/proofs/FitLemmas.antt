@@ -1,22 +1,21 @@
 -- the children of a flaw of a formed sheet fit
-use Rattle.std.proofs.Common.{◌≡◌, ◌≢◌, ℕ, suc, zero, ◌+◌, ◌≤◌, ◌<◌, List, [], ◌∷◌, map, true, length, Contains, refl, sym, ◌∙◌, ap, subst, arith, inl, inr, ◌⊎◌}
-use Rattle.std.proofs.lemmas.Bool.{cases_lt, or_left, or_right}
+use Rattle.std.proofs.Common.{◌≡◌, ℕ, suc, zero, ◌≤◌, List, [], ◌∷◌, map, true, Contains, sym, subst, arith}
+use Rattle.std.proofs.lemmas.Bool.{or_left, or_right}
 use Rattle.cpt_task.specs.Shape.{TaskShape}
 use Rattle.cpt_sheet.specs.declared.data.Cand.{Cand}
 use Rattle.cpt_sheet.specs.declared.data.Cand.TheVariants.{Tok, Out}
 use Rattle.cpt_sheet.specs.declared.data.Kind.{Kind}
-use Rattle.cpt_sheet.specs.declared.data.Kind.TheVariants.{Start, End, Act}
 use Rattle.cpt_sheet.specs.declared.data.Sheet.{Sheet}
 use Rattle.cpt_sheet.specs.declared.data.Decision.{Decision}
-use Rattle.cpt_sheet.specs.declared.data.Decision.TheVariants.{Join, Bring, Before}
+use Rattle.cpt_sheet.specs.declared.data.Decision.TheVariants.{Before}
 use Rattle.cpt_sheet.specs.declared.data.Flaw.{Flaw}
 use Rattle.cpt_sheet.specs.declared.data.Flaw.TheVariants.{Threat, OpenNeed, Clash}
 use Rattle.cpt_sheet.specs.Roles.{Deletes, Clash as Interfere}
 use Rattle.cpt_sheet.specs.View.{kind_of, cands, has, same}
 use Rattle.cpt_sheet.specs.Formed.{IsFormed, IsPlaced}
-use Rattle.cpt_calculus.specs.Rules.{only, IsThreatOf}
+use Rattle.cpt_calculus.specs.Rules.{only}
 use Rattle.cpt_calculus.specs.Decisions.{Fits}
-use Rattle.cpt_calculus.specs.Flaws.{IsFlaw, IsThreat, IsClash, children, choice}
+use Rattle.cpt_calculus.specs.Flaws.{IsFlaw, children, choice}
 use Rattle.cpt_soundness.proofs.PlanLemmas.{nil_has}
 use Rattle.cpt_soundness.proofs.ViewLemmas.{same_self}
 use Rattle.cpt_soundness.proofs.ActingLemmas.{deleter_there, clash_there, clash_there_last}
@@ -62,9 +61,9 @@ children_fit t s (Threat x p e) f k d m =
     let supply = f.supply x p (Tok y) (lone_there s x p y w.one) in
     let lx = cand_there s x p (Tok y) (lone_there s x p y w.one) in
     one_of_two (λ z. Fits s z) (Before e (only (cands s x p))) (Before x e) d
-      (subst (λ cs. IsPlaced s e (only cs)) (sym w.one) (record { first = there; second = supply.0; different = w.different; forward = λ q. (let q0 = q.0 in omega (arith, late, q0)) }))
-      (record { first = lx; second = there; different = λ q. w.other (sym q); forward = λ q. (let q1 = q.1 in omega (arith, late, q1)) })
-      m
+    (subst (λ cs. IsPlaced s e (only cs)) (sym w.one) (record { first = there; second = supply.0; different = w.different; forward = λ q. (let q0 = q.0 in omega (arith, late, q0)) }))
+    (record { first = lx; second = there; different = λ q. w.other (sym q); forward = λ q. (let q1 = q.1 in omega (arith, late, q1)) })
+    m
 children_fit t s (OpenNeed x p) f k d m = let c = chosen x p (cands s x p) d m in subst (λ z. Fits s z) c.2 (choice_fits s x p c.0 c.1)
 children_fit t s (Clash x y) f k d m =
     let lx = clash_there t s x (kind_of s (Tok y)) k.interfere in
@@ -72,6 +71,6 @@ children_fit t s (Clash x y) f k d m =
     let two = clash_behind t s x (kind_of s (Tok y)) f k.interfere in
     let less = k.ordered in
     one_of_two (λ z. Fits s z) (Before x y) (Before y x) d
-      (record { first = lx; second = ly; different = λ q. omega (arith, less, q); forward = λ q. (let q0 = q.0 in omega (arith, two, q0)) })
-      (record { first = ly; second = lx; different = λ q. omega (arith, less, q); forward = λ q. (let q1 = q.1 in omega (arith, two, q1)) })
-      m
+    (record { first = lx; second = ly; different = λ q. omega (arith, less, q); forward = λ q. (let q0 = q.0 in omega (arith, two, q0)) })
+    (record { first = ly; second = lx; different = λ q. omega (arith, less, q); forward = λ q. (let q1 = q.1 in omega (arith, two, q1)) })
+    m

@@ -1,5 +1,5 @@
 -- the root is formed
-use Rattle.std.proofs.Common.{◌≡◌, ◌≢◌, ℕ, suc, zero, ◌+◌, ◌-◌, ◌≤◌, ◌<◌, ◌==◌, ◌&&◌, List, [], ◌∷◌, map, Bool, true, false, if◌then◌else◌, length, slice_get, unwrap_or, All, Contains, refl, sym, ◌∙◌, ap, subst, arith, inl, inr, ◌⊎◌, lit≤, nat_le}
+use Rattle.std.proofs.Common.{◌≡◌, ℕ, suc, zero, ◌-◌, ◌≤◌, ◌<◌, ◌==◌, ◌&&◌, map, Bool, true, false, if◌then◌else◌, length, refl, sym, ◌∙◌, subst, arith, inl, inr, ◌⊎◌, lit≤, nat_le}
 use Rattle.std.proofs.lemmas.Bool.{cases_lt, or_cases, and_parts, eqb-true}
 use Rattle.std.proofs.lemmas.Option.{unwrap_or-slice_get}
 use Rattle.cpt_task.specs.declared.span.Span.{Span}
@@ -13,17 +13,15 @@ use Rattle.cpt_tables.proofs.SpanLemmas.{below_more}
 use Rattle.cpt_sheet.specs.declared.data.Cand.{Cand}
 use Rattle.cpt_sheet.specs.declared.data.Cand.TheVariants.{Tok, Out}
 use Rattle.cpt_sheet.specs.declared.data.Kind.{Kind}
-use Rattle.cpt_sheet.specs.declared.data.Kind.TheVariants.{Start, End, Act}
+use Rattle.cpt_sheet.specs.declared.data.Kind.TheVariants.{End, Act}
 use Rattle.cpt_sheet.specs.declared.data.Interval.{Interval}
 use Rattle.cpt_sheet.specs.declared.data.Need.{Need}
-use Rattle.cpt_sheet.specs.declared.data.Sheet.{Sheet}
-use Rattle.cpt_sheet.specs.Roles.{needs_of, adds_of, Adds}
+use Rattle.cpt_sheet.specs.Roles.{needs_of, Adds}
 use Rattle.cpt_sheet.specs.Gaps.{FitsTask, gap}
-use Rattle.cpt_sheet.specs.View.{no_span, token_at, span_of, lo, hi, kind_of, cands, list_for, before, has_order, has}
+use Rattle.cpt_sheet.specs.View.{no_span, token_at, span_of, lo, hi, kind_of, cands, before, has}
 use Rattle.cpt_sheet.specs.Formed.{IsFormed, IsActionOf, CanAdd, IsAscending, IsPlaced}
 use Rattle.cpt_sheet.proofs.FormedLemmas.{at_past}
 use Rattle.cpt_sheet.proofs.GapLemmas.{needs_within, set_below}
-use Rattle.cpt_calculus.specs.Decisions.{need_for}
 use Rattle.cpt_calculus.specs.Root.{window, out_at_root, outs_at_root, bare_root, root_of}
 use Rattle.cpt_soundness.proofs.PlanLemmas.{nil_has}
 use Rattle.cpt_soundness.proofs.AdderLemmas.{made_atoms}
@@ -42,9 +40,10 @@ module _ (t : TaskShape) (b : Tables) (m : ℕ) (inside : InBounds t) (fit : Fit
   -- an interval of an outside action of the root, and of one that is not there
   out_is : (a : ℕ) → (span_of (root_of t b m) (Out a) ≡ out_at_root t b m a) ⊎ (span_of (root_of t b m) (Out a) ≡ no_span)
   out_is a =
-      elim (cases_lt a (length t.actions))
-        [ inl l ↦ inl (unwrap_or-slice_get (outs_at_root t b m (length t.actions)) a no_span ∙ outs_at t b m (length t.actions) a l)
-        | inr k ↦ inr (at_past (outs_at_root t b m (length t.actions)) no_span a (let c = count_outs t b m (length t.actions) in omega (arith, c, k))) ]
+      elim (cases_lt a (length t.actions)) [
+        | inl l ↦ inl (unwrap_or-slice_get (outs_at_root t b m (length t.actions)) a no_span ∙ outs_at t b m (length t.actions) a l)
+        | inr k ↦ inr (at_past (outs_at_root t b m (length t.actions)) no_span a (let c = count_outs t b m (length t.actions) in omega (arith, c, k)))
+      ]
 
   small : (k : Kind) → IsBelow 1000000000000000 (set_span_of b.pairs (needs_of t k))
   small k = set_below t b (needs_of t k) fit (needs_within t k inside)
@@ -83,17 +82,19 @@ module _ (t : TaskShape) (b : Tables) (m : ℕ) (inside : InBounds t) (fit : Fit
   within (Tok (suc zero)) = omega arith
   within (Tok (suc (suc x))) = omega arith
   within (Out a) =
-      elim (out_is a)
-        [ inl e ↦ subst (λ (i : Interval). i.hi ≤ m) (sym e) (window_hi (set_span_of b.pairs (nth_action t a).pre) (gap t b (Act a) End) m)
-        | inr e ↦ subst (λ (i : Interval). i.hi ≤ m) (sym e) (omega arith) ]
+      elim (out_is a) [
+        | inl e ↦ subst (λ (i : Interval). i.hi ≤ m) (sym e) (window_hi (set_span_of b.pairs (nth_action t a).pre) (gap t b (Act a) End) m)
+        | inr e ↦ subst (λ (i : Interval). i.hi ≤ m) (sym e) (omega arith)
+      ]
 
   outs_below : (a : ℕ) → IsBelow 2000000000000000 (lo (root_of t b m) (Out a))
   outs_below a =
-      elim (out_is a)
-        [ inl e ↦ subst (λ (i : Interval). IsBelow 2000000000000000 i.lo) (sym e)
+      elim (out_is a) [
+        | inl e ↦ subst (λ (i : Interval). IsBelow 2000000000000000 i.lo) (sym e)
             (window_lo (set_span_of b.pairs (nth_action t a).pre) (gap t b (Act a) End) m 2000000000000000
-              (below_more 1000000000000000 2000000000000000 (set_span_of b.pairs (nth_action t a).pre) (lit≤ tt) (small (Act a))))
-        | inr e ↦ subst (λ (i : Interval). IsBelow 2000000000000000 i.lo) (sym e) tt ]
+            (below_more 1000000000000000 2000000000000000 (set_span_of b.pairs (nth_action t a).pre) (lit≤ tt) (small (Act a))))
+        | inr e ↦ subst (λ (i : Interval). IsBelow 2000000000000000 i.lo) (sym e) tt
+      ]
 
   tokens_below : (x : ℕ) → IsBelow 4000000000000000 (lo (root_of t b m) (Tok x))
   tokens_below zero = lit≤ tt
@@ -102,14 +103,29 @@ module _ (t : TaskShape) (b : Tables) (m : ℕ) (inside : InBounds t) (fit : Fit
 
   orders : (x y : ℕ) → before (root_of t b m) x y ≡ true → IsPlaced (root_of t b m) x y
   orders x y h =
-      elim (or_cases ((0 == x) && (1 == y)) false h)
-        [ inl k ↦ (let q = and_parts (0 == x) (1 == y) k in let e = eqb-true 0 x q.0 in let g = eqb-true 1 y q.1 in
+      elim (or_cases ((0 == x) && (1 == y)) false h) [
+        | inl k ↦ (let q = and_parts (0 == x) (1 == y) k in let e = eqb-true 0 x q.0 in let g = eqb-true 1 y q.1 in
             record { first = omega (arith, e); second = omega (arith, g); different = λ d. omega (arith, e, g, d); forward = λ d. (let d0 = d.0 in omega (arith, e, d0)) })
-        | inr k ↦ cc ]
+        | inr k ↦ cc
+      ]
 
   pub root_formed : IsFormed t (root_of t b m)
   root_formed = record {
-    two = omega arith; start = refl; end = refl; actions = actions; outs = count_outs t b m (length t.actions); needs = needs; supply = supply; ascending = ascending;
-    bound = few; within = within; outs_below = outs_below; tokens_below = tokens_below; orders = orders;
-    increasing = ((λ x y h. cc), tt); ends = refl;
-    after_start = λ x two l. absurd (omega (arith, two, l)); before_end = λ x two l. absurd (omega (arith, two, l)) }
+    two = omega arith;
+    start = refl;
+    end = refl;
+    actions = actions;
+    outs = count_outs t b m (length t.actions);
+    needs = needs;
+    supply = supply;
+    ascending = ascending;
+    bound = few;
+    within = within;
+    outs_below = outs_below;
+    tokens_below = tokens_below;
+    orders = orders;
+    increasing = ((λ x y h. cc), tt);
+    ends = refl;
+    after_start = λ x two l. absurd (omega (arith, two, l));
+    before_end = λ x two l. absurd (omega (arith, two, l));
+  }

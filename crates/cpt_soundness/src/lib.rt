@@ -5,6 +5,6 @@
 mod laws;
 
 pub use laws::{
-    apply_formed, children_cover, children_fit, dead_admits_none, gaps_kept, narrow_formed, narrow_keeps, root_admits,
-    root_formed, tree_refutes,
+    apply_formed, children_cover, children_fit, dead_admits_none, gaps_kept, narrow_formed,
+    narrow_keeps, root_admits, root_formed, tree_refutes,
 };
