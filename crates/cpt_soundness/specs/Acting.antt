@@ -2,14 +2,15 @@ use Rattle.std.specs.Prelude.{◌≡◌, ◌≢◌, ◌<◌, ◌≤◌, List, le
 use Rattle.cpt_task.specs.declared.plan.Occ.{Occ}
 use Rattle.cpt_task.specs.declared.span.Span.TheVariants.{At}
 use Rattle.cpt_task.specs.Shape.{TaskShape, InBounds}
-use Rattle.cpt_task.specs.Timeline.{IsValid, occurrence_at}
+use Rattle.cpt_task.specs.Timeline.{IsValid, action_of, occurrence_at}
 use Rattle.cpt_tables.specs.declared.tables.Tables.{Tables}
 use Rattle.cpt_tables.specs.Spans.{◌≤ˢ◌, ◌+ˢ◌}
 use Rattle.cpt_tables.specs.Admissible.{IsAdmissiblePairs, IsAdmissibleDists}
 use Rattle.cpt_sheet.specs.declared.data.Kind.{Kind}
 use Rattle.cpt_sheet.specs.declared.data.Kind.TheVariants.{Start, End, Act}
 use Rattle.cpt_sheet.specs.Gaps.{gap}
-use Rattle.cpt_calculus.specs.Plans.{Who, begins, ends}
+use Rattle.cpt_sheet.specs.Roles.{needs_of}
+use Rattle.cpt_calculus.specs.Plans.{Who, begins, ends, Supplies}
 use Rattle.cpt_calculus.specs.Plans.Who.{begin, finish, place}
 
 -- admissible tables of a task whose numbers are in range
@@ -45,3 +46,11 @@ KeepsGaps t b plan =
 -- over admissible tables every valid plan keeps the gaps
 abbrev pub GapsKept : Type 0
 GapsKept = (t : TaskShape) (b : Tables) (plan : List Occ) → IsAdmissible t b → IsValid t plan → KeepsGaps t b plan
+
+-- Where w supplies an atom that u needs, an occurrence that deletes it, and is neither of the two, ends before w begins
+-- or begins after u ends.
+abbrev pub DeletersKeepAway : Type 0
+DeletersKeepAway =
+    (t : TaskShape) (plan : List Occ) (d p : ℕ) (w u : Who) → InBounds t → IsValid t plan → d < length plan → IsWithin plan u →
+    Contains (action_of t (occurrence_at plan d)).dele p → Contains (needs_of t (kind_who plan u)) p → Supplies t plan p (begins t plan u) w →
+    place d ≢ w → place d ≢ u → IsAhead t plan (place d) w ⊎ IsAhead t plan u (place d)
