@@ -99,7 +99,7 @@ module _ (t : TaskShape) (b : Tables) (plan : List Occ) (ok : IsAdmissible t b) 
   clash_ahead (place i) begin l m ne c = absurd c
   clash_ahead (place i) finish l m ne c = absurd c
   clash_ahead (place i) (place j) l m ne c =
-      elim (apart t b plan ok valid i j l m (λ e. ne (ap place e)) c.interfere.interfere) [
+      elim (apart t plan ok.bounds valid i j l m (λ e. ne (ap place e)) c.interfere.interfere) [
         | inl e ↦ inl (record { different = ne; forward = λ k. (let k0 = k.0 in cc); first = e })
         | inr e ↦ inr (record { different = λ k. ne (sym k); forward = λ k. (let k0 = k.0 in cc); first = e })
       ]
@@ -164,7 +164,7 @@ module _ (t : TaskShape) (b : Tables) (plan : List Occ) (ok : IsAdmissible t b) 
     where
       free : (c d : Cand) → StandsFor f plan s c v → StandsFor f plan s d w → ordered s d c ≡ false
       free (Tok x) (Tok y) kx ky = false_from_ne_true (before s y x) (λ e.
-          not_both t b plan ok valid v w (stands_is (Tok x) v kx).0 (stands_is (Tok y) w ky).0 a
+          not_both t plan ok.bounds valid v w (stands_is (Tok x) v kx).0 (stands_is (Tok y) w ky).0 a
           (subst (λ z. IsAhead t plan z v) ky.1 (subst (λ z. IsAhead t plan (who f s y) z) kx.1 (order_ahead y x e))))
       free (Tok x) (Out e) kx ky = refl
       free (Out e) (Tok y) kx ky = refl
@@ -207,13 +207,13 @@ module _ (t : TaskShape) (b : Tables) (plan : List Occ) (ok : IsAdmissible t b) 
       (subst (λ ns. Contains ns p) (formed.needs x l) (atom_there p (token_at s x).lists n))
 
   pub need_ahead : (x p : ℕ) (w : Who) → has_need s x p ≡ true → Supplies t plan p (begins t plan (who f s x)) w → IsAhead t plan w (who f s x)
-  need_ahead x p w n sup = supplies_ahead t b plan ok valid p w (who f s x) (stands_is (Tok x) (who f s x) (need_there x p n, refl)).0 (who_needs x p n) sup
+  need_ahead x p w n sup = supplies_ahead t plan ok.bounds valid p w (who f s x) (stands_is (Tok x) (who f s x) (need_there x p n, refl)).0 (who_needs x p n) sup
 
   -- each need's list names its supplier
   pub named : (x p : ℕ) → has_need s x p ≡ true → (c : Cand) × (w : Who) × StandsFor f plan s c w × Supplies t plan p (begins t plan (who f s x)) w × (has c (cands s x p) ≡ true)
   named x p n =
       let q = supplier t plan p (begins t plan (who f s x)) in
-      let k = stander q.0 (supplies_within t b plan ok valid p (begins t plan (who f s x)) q.0 q.1) in
+      let k = stander q.0 (supplies_within t plan ok.bounds valid p (begins t plan (who f s x)) q.0 q.1) in
       (k.0, q.0, k.1, q.1, h.supplied x p n k.0 q.0 k.1 q.1)
 
   -- where the list is one token, that token supplies
@@ -235,7 +235,7 @@ module _ (t : TaskShape) (b : Tables) (plan : List Occ) (ok : IsAdmissible t b) 
       let d = who_deletes t plan v p (subst (λ k. Deletes t k p) (sym r.1) del) in
       let u = who f s x in
       subst (λ z. IsAhead t plan z w ⊎ IsAhead t plan u z) (sym d.1)
-      (cleared t b plan ok valid d.0 p w u (subst (λ z. IsWithin plan z) d.1 r.0) (stands_is (Tok x) u (need_there x p n, refl)).0 d.2 (who_needs x p n) sup
+      (cleared t plan ok.bounds valid d.0 p w u (subst (λ z. IsWithin plan z) d.1 r.0) (stands_is (Tok x) u (need_there x p n, refl)).0 d.2 (who_needs x p n) sup
       (λ k. nw (d.1 ∙ k)) (λ k. nx (d.1 ∙ k)))
 
   -- of two candidates that interfere one is ahead

@@ -247,7 +247,7 @@ module _ (t : TaskShape) (b : Tables) (plan : List Occ) (ok : IsAdmissible t b) 
             (subst (λ ps. Contains ps q) (made_atoms t s (nth_action t a).pre) (atom_there q (map (need_for t s) (nth_action t a).pre) made))
 
         added : Contains (adds_of t (kind_who plan w)) q
-        added = supplies_adds t b plan ok valid q (begins t plan (place i)) w (held t b plan ok valid (place i) q out.within needed) m
+        added = supplies_adds t plan ok.bounds valid q (begins t plan (place i)) w (held t plan ok.bounds valid (place i) q out.within needed) m
 
         among : (c : Cand) → StandsFor f plan s c w → has c (adders t s q) ≡ true
         among (Tok y) st = token_among t s q y st.0 (subst (λ z. Adds t z q) (acting.stands_is t b plan ok valid f s formed h (Tok y) w st).1 added)
@@ -259,7 +259,7 @@ module _ (t : TaskShape) (b : Tables) (plan : List Occ) (ok : IsAdmissible t b) 
             (subst (λ z. Adds t z q) (acting.stands_is t b plan ok valid f s formed h (Out o) w st).1 added)
 
         go : (c : Cand) → ((c ≡ Tok (length s.tokens)) × (w ≡ place i)) ⊎ StandsFor f plan s c w → has c (adders t s q) ≡ true
-        go c (inl new) = absurd ((supplies_ahead t b plan ok valid q w (place i) out.within needed m).different new.1)
+        go c (inl new) = absurd ((supplies_ahead t plan ok.bounds valid q w (place i) out.within needed m).different new.1)
         go c (inr st) = among c st
 
     supplied : (y q : ℕ) → has_need (applied t s (Bring x p a)) y q ≡ true → (c : Cand) (w : Who) → StandsFor (with_place f (length s.tokens) i) plan (applied t s (Bring x p a)) c w →

@@ -6,7 +6,7 @@ use Rattle.std.proofs.lemmas.List.Elements.{All-contains}
 use Rattle.cpt_task.specs.declared.plan.Occ.{Occ}
 use Rattle.cpt_task.specs.declared.span.Span.{Span}
 use Rattle.cpt_task.specs.declared.span.Span.TheVariants.{At, Never}
-use Rattle.cpt_task.specs.Shape.{TaskShape}
+use Rattle.cpt_task.specs.Shape.{TaskShape, InBounds}
 use Rattle.cpt_task.specs.Interference.{Interferes}
 use Rattle.cpt_task.specs.Timeline.{action_of, end_of, occurrence_at, makespan, IsValid, HoldsThen, deletes_at}
 use Rattle.cpt_tables.specs.declared.tables.Tables.{Tables}
@@ -23,7 +23,7 @@ use Rattle.cpt_sheet.specs.Roles.{needs_of, adds_of}
 use Rattle.cpt_sheet.specs.Gaps.{reach}
 use Rattle.cpt_calculus.specs.Plans.{Who, begins, IsAdder, IsNoEarlier, Supplies}
 use Rattle.cpt_calculus.specs.Plans.Who.{begin, finish, place}
-use Rattle.cpt_soundness.specs.Acting.{IsAdmissible, kind_who, IsWithin, IsAhead, KeepsGaps, GapsKept}
+use Rattle.cpt_soundness.specs.Acting.{IsAdmissible, kind_who, IsWithin, IsAhead, KeepsGaps, GapsKept, DeletersKeepAway}
 
 zero_add_le : (g : Span) (m : ℕ) → g ≤ˢ At m → (At 0 +ˢ g) ≤ˢ At m
 zero_add_le (At g) m h = omega arith
@@ -50,51 +50,16 @@ end_le t [] i l = absurd (omega arith)
 end_le t (o ∷ os) zero l = omega arith
 end_le t (o ∷ os) (suc i) l = let k = end_le t os i (omega arith) in omega arith
 
-module _ (t : TaskShape) (b : Tables) (plan : List Occ) (ok : IsAdmissible t b) (valid : IsValid t plan) where
+module _ (t : TaskShape) (plan : List Occ) (inside : InBounds t) (valid : IsValid t plan) where
   -- an occurrence begins before it ends
   pub strict : (i : ℕ) → i < length plan → (occurrence_at plan i).start < end_of t (occurrence_at plan i)
-  strict i l = let k : 1 ≤ (action_of t (occurrence_at plan i)).dur = (lasts t plan i ok.bounds valid l).0 in omega (arith, k)
+  strict i l = let k : 1 ≤ (action_of t (occurrence_at plan i)).dur = (lasts t plan i inside valid l).0 in omega (arith, k)
 
   -- what someone needs holds when he begins
   pub held : (u : Who) (p : ℕ) → IsWithin plan u → Contains (needs_of t (kind_who plan u)) p → HoldsThen t plan (begins t plan u) p
   held begin p l has = absurd (nil_has p has)
   held finish p l has = All-contains (HoldsThen t plan (makespan t plan)) t.goal p valid.goal has
   held (place i) p l has = needs_hold t plan i p (occurrence_at plan i).start valid l has (omega arith) (strict i l)
-
-  -- what he needs is bounded from the start
-  pub set_by : (u : Who) → IsWithin plan u → set_span_of b.pairs (needs_of t (kind_who plan u)) ≤ˢ At (begins t plan u)
-  set_by u l =
-      across_le b.pairs (needs_of t (kind_who plan u)) (needs_of t (kind_who plan u)) (At (begins t plan u))
-      (λ p q hp hq. pairs_bound t b.pairs ok.bounds ok.pairs plan valid (begins t plan u) p q (held u p l hp) (held u q l hq))
-
-  -- and from each occurrence that has ended
-  dist_by : (i : ℕ) (u : Who) → i < length plan → IsWithin plan u → end_of t (occurrence_at plan i) ≤ begins t plan u →
-      (At (end_of t (occurrence_at plan i)) +ˢ most_dist b.dists (occurrence_at plan i).act (needs_of t (kind_who plan u))) ≤ˢ At (begins t plan u)
-  dist_by i u l m e =
-      move_on (end_of t (occurrence_at plan i)) (begins t plan u) (most_dist b.dists (occurrence_at plan i).act (needs_of t (kind_who plan u))) e
-      (over_le (dist_at b.dists (occurrence_at plan i).act) (needs_of t (kind_who plan u)) (At (begins t plan u - end_of t (occurrence_at plan i)))
-      (all_from (λ p. dist_at b.dists (occurrence_at plan i).act p ≤ˢ At (begins t plan u - end_of t (occurrence_at plan i))) (needs_of t (kind_who plan u))
-      (λ p has. back_off (end_of t (occurrence_at plan i)) (begins t plan u) (dist_at b.dists (occurrence_at plan i).act p)
-      (dists_bound t b.pairs b.dists ok.bounds ok.pairs ok.dists plan valid (occurrence_at plan i) (i, l, sym (get_or_default plan i (record { act = 0; start = 0 }) (occurrence_at plan i) l)) (begins t plan u) p e (held u p m has)))))
-
-  after : (i : ℕ) (u : Who) → i < length plan → IsWithin plan u → end_of t (occurrence_at plan i) ≤ begins t plan u →
-      (At (occurrence_at plan i).start +ˢ reach t b (Act (occurrence_at plan i).act) (needs_of t (kind_who plan u))) ≤ˢ At (begins t plan u)
-  after i u l m e =
-      subst (λ (c : Bool). (At (occurrence_at plan i).start +ˢ (if c then At (nth_action t (occurrence_at plan i).act).dur +ˢ most_dist b.dists (occurrence_at plan i).act (needs_of t (kind_who plan u)) else Never)) ≤ˢ At (begins t plan u))
-      (sym (lt-ltb (occurrence_at plan i).act (length t.actions) (valid.of_task i (record { act = 0; start = 0 }) l)))
-      (add_assoc (occurrence_at plan i).start (nth_action t (occurrence_at plan i).act).dur (begins t plan u) (most_dist b.dists (occurrence_at plan i).act (needs_of t (kind_who plan u)))
-      (dist_by i u l m e))
-
-  pub keeps_gaps : KeepsGaps t b plan
-  keeps_gaps begin begin l m a = absurd (a.different refl)
-  keeps_gaps begin finish l m a = zero_add_le (set_span_of b.pairs t.goal) (makespan t plan) (set_by finish tt)
-  keeps_gaps begin (place j) l m a = zero_add_le (set_span_of b.pairs (nth_action t (occurrence_at plan j).act).pre) (occurrence_at plan j).start (set_by (place j) m)
-  keeps_gaps finish begin l m a = absurd (a.forward (refl, refl))
-  keeps_gaps finish finish l m a = absurd (a.different refl)
-  keeps_gaps finish (place j) l m a = let e = end_le t plan j m in let s = strict j m in let f = a.first in absurd (omega (arith, e, s, f))
-  keeps_gaps (place i) begin l m a = let s = strict i l in let f = a.first in absurd (omega (arith, s, f))
-  keeps_gaps (place i) finish l m a = after i finish l tt a.first
-  keeps_gaps (place i) (place j) l m a = after i (place j) l m a.first
 
   -- no two are ahead of each other
   pub not_both : (v w : Who) → IsWithin plan v → IsWithin plan w → IsAhead t plan v w → IsAhead t plan w v → ⊥
@@ -190,6 +155,42 @@ module _ (t : TaskShape) (b : Tables) (plan : List Occ) (ok : IsAdmissible t b) 
   supplies_adds p m finish h sup = absurd sup
   supplies_adds p m (place i) h sup = sup.adder.adds
 
+module _ (t : TaskShape) (b : Tables) (plan : List Occ) (ok : IsAdmissible t b) (valid : IsValid t plan) where
+  -- what he needs is bounded from the start
+  pub set_by : (u : Who) → IsWithin plan u → set_span_of b.pairs (needs_of t (kind_who plan u)) ≤ˢ At (begins t plan u)
+  set_by u l =
+      across_le b.pairs (needs_of t (kind_who plan u)) (needs_of t (kind_who plan u)) (At (begins t plan u))
+      (λ p q hp hq. pairs_bound t b.pairs ok.bounds ok.pairs plan valid (begins t plan u) p q (held t plan ok.bounds valid u p l hp) (held t plan ok.bounds valid u q l hq))
+
+  -- and from each occurrence that has ended
+  dist_by : (i : ℕ) (u : Who) → i < length plan → IsWithin plan u → end_of t (occurrence_at plan i) ≤ begins t plan u →
+      (At (end_of t (occurrence_at plan i)) +ˢ most_dist b.dists (occurrence_at plan i).act (needs_of t (kind_who plan u))) ≤ˢ At (begins t plan u)
+  dist_by i u l m e =
+      move_on (end_of t (occurrence_at plan i)) (begins t plan u) (most_dist b.dists (occurrence_at plan i).act (needs_of t (kind_who plan u))) e
+      (over_le (dist_at b.dists (occurrence_at plan i).act) (needs_of t (kind_who plan u)) (At (begins t plan u - end_of t (occurrence_at plan i)))
+      (all_from (λ p. dist_at b.dists (occurrence_at plan i).act p ≤ˢ At (begins t plan u - end_of t (occurrence_at plan i))) (needs_of t (kind_who plan u))
+      (λ p has. back_off (end_of t (occurrence_at plan i)) (begins t plan u) (dist_at b.dists (occurrence_at plan i).act p)
+      (dists_bound t b.pairs b.dists ok.bounds ok.pairs ok.dists plan valid (occurrence_at plan i) (i, l, sym (get_or_default plan i (record { act = 0; start = 0 }) (occurrence_at plan i) l)) (begins t plan u) p e (held t plan ok.bounds valid u p m has)))))
+
+  after : (i : ℕ) (u : Who) → i < length plan → IsWithin plan u → end_of t (occurrence_at plan i) ≤ begins t plan u →
+      (At (occurrence_at plan i).start +ˢ reach t b (Act (occurrence_at plan i).act) (needs_of t (kind_who plan u))) ≤ˢ At (begins t plan u)
+  after i u l m e =
+      subst (λ (c : Bool). (At (occurrence_at plan i).start +ˢ (if c then At (nth_action t (occurrence_at plan i).act).dur +ˢ most_dist b.dists (occurrence_at plan i).act (needs_of t (kind_who plan u)) else Never)) ≤ˢ At (begins t plan u))
+      (sym (lt-ltb (occurrence_at plan i).act (length t.actions) (valid.of_task i (record { act = 0; start = 0 }) l)))
+      (add_assoc (occurrence_at plan i).start (nth_action t (occurrence_at plan i).act).dur (begins t plan u) (most_dist b.dists (occurrence_at plan i).act (needs_of t (kind_who plan u)))
+      (dist_by i u l m e))
+
+  pub keeps_gaps : KeepsGaps t b plan
+  keeps_gaps begin begin l m a = absurd (a.different refl)
+  keeps_gaps begin finish l m a = zero_add_le (set_span_of b.pairs t.goal) (makespan t plan) (set_by finish tt)
+  keeps_gaps begin (place j) l m a = zero_add_le (set_span_of b.pairs (nth_action t (occurrence_at plan j).act).pre) (occurrence_at plan j).start (set_by (place j) m)
+  keeps_gaps finish begin l m a = absurd (a.forward (refl, refl))
+  keeps_gaps finish finish l m a = absurd (a.different refl)
+  keeps_gaps finish (place j) l m a = let e = end_le t plan j m in let s = strict t plan ok.bounds valid j m in let f = a.first in absurd (omega (arith, e, s, f))
+  keeps_gaps (place i) begin l m a = let s = strict t plan ok.bounds valid i l in let f = a.first in absurd (omega (arith, s, f))
+  keeps_gaps (place i) finish l m a = after i finish l tt a.first
+  keeps_gaps (place i) (place j) l m a = after i (place j) l m a.first
+
 -- only one supplies
 pub supplies_one : (t : TaskShape) (plan : List Occ) (p m : ℕ) (v w : Who) → Supplies t plan p m v → Supplies t plan p m w → v ≡ w
 supplies_one t plan p m begin begin h k = refl
@@ -260,3 +261,6 @@ supplier t plan p m = elim (among t plan p m (length plan) (omega arith)) [
 
 pub gaps_kept : GapsKept
 gaps_kept t b plan ok valid = keeps_gaps t b plan ok valid
+
+pub deleters_keep_away : DeletersKeepAway
+deleters_keep_away t plan d p w u inside valid l lu del need sup nw nu = cleared t plan inside valid d p w u l lu del need sup nw nu

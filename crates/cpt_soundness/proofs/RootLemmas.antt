@@ -115,7 +115,7 @@ module _ (t : TaskShape) (b : Tables) (m : ℕ) (plan : List Occ) (f : ℕ → �
   supplied (suc zero) p n c w k sup =
       let needed : Contains t.goal p = subst (λ ps. Contains ps p) (made_atoms t (bare_root t b m) t.goal) (atom_there p (map (need_for t (bare_root t b m)) t.goal) n) in
       subst (λ cs. has c cs ≡ true) (sym (made_list t (bare_root t b m) p t.goal n))
-      (goal_list p n c w k sup (supplies_adds t b plan ok valid p (makespan t plan) w (held t b plan ok valid finish p tt needed) sup))
+      (goal_list p n c w k sup (supplies_adds t plan ok.bounds valid p (makespan t plan) w (held t plan ok.bounds valid finish p tt needed) sup))
   supplied (suc (suc x)) p n c w k sup = cc
 
 pub root_admits : RootAdmits

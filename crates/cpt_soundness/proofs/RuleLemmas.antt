@@ -150,11 +150,11 @@ module _ (t : TaskShape) (b : Tables) (plan : List Occ) (ok : IsAdmissible t b) 
       let r = acting.stands_is t b plan ok valid f s formed h (Out a) w kw in
       let need : Contains (needs_of t (kind_who plan w)) p = subst (λ j. Contains (needs_of t j) p) (sym r.1) k.need in
       let q = supplier t plan p (begins t plan w) in
-      let c = acting.stander t b plan ok valid f s formed h q.0 (supplies_within t b plan ok valid p (begins t plan w) q.0 q.1) in
+      let c = acting.stander t b plan ok valid f s formed h q.0 (supplies_within t plan ok.bounds valid p (begins t plan w) q.0 q.1) in
       let e = acting.stands_is t b plan ok valid f s formed h c.0 q.0 c.1 in
       le_trans v (arrival t b s c.0 (Out a)) (At (begins t plan w))
-      (reaches a p v k c.0 q.0 c.1 (subst (λ j. Adds t j p) e.1 (supplies_adds t b plan ok valid p (begins t plan w) q.0 (held t b plan ok valid w p r.0 need) q.1)))
-      (in_time c.0 (Out a) q.0 w c.1 kw (supplies_ahead t b plan ok valid p q.0 w r.0 need q.1))
+      (reaches a p v k c.0 q.0 c.1 (subst (λ j. Adds t j p) e.1 (supplies_adds t plan ok.bounds valid p (begins t plan w) q.0 (held t plan ok.bounds valid w p r.0 need) q.1)))
+      (in_time c.0 (Out a) q.0 w c.1 kw (supplies_ahead t plan ok.bounds valid p q.0 w r.0 need q.1))
 
   -- where a deletes what y alone adds for x, an outside occurrence of it is ahead of y or x is ahead of it
   outside_away : (x p a y : ℕ) → IsOutsideThreat t s x p a y → (w : Who) → Stands (Out a) w → (IsAhead t plan w (who f s y) ⊎ IsAhead t plan (who f s x) w) × Stands (Tok y) (who f s y)
@@ -208,10 +208,10 @@ module _ (t : TaskShape) (b : Tables) (plan : List Occ) (ok : IsAdmissible t b) 
       let ap = acting.need_ahead t b plan ok valid f s formed h x p v np sp in
       let aq = acting.need_ahead t b plan ok valid f s formed h x q w nq sq in
       elim (away x q w nq sq c v kc both.first ne ap.different) [
-        | inr m ↦ not_both t b plan ok valid v (who f s x) rc.0 rx.0 ap m
+        | inr m ↦ not_both t plan ok.bounds valid v (who f s x) rc.0 rx.0 ap m
         | inl m ↦ elim (away x p v np sp d w kd both.second (λ e. ne (sym e)) aq.different) [
-          | inr n ↦ not_both t b plan ok valid w (who f s x) rd.0 rx.0 aq n
-          | inl n ↦ not_both t b plan ok valid v w rc.0 rd.0 m n
+          | inr n ↦ not_both t plan ok.bounds valid w (who f s x) rd.0 rx.0 aq n
+          | inl n ↦ not_both t plan ok.bounds valid v w rc.0 rd.0 m n
         ]
       ]
 

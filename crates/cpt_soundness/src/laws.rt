@@ -1,6 +1,6 @@
 //! The laws.
 
-ghost use Rattle.cpt_soundness.specs.Acting.{GapsKept};
+ghost use Rattle.cpt_soundness.specs.Acting.{DeletersKeepAway, GapsKept};
 ghost use Rattle.cpt_soundness.specs.Laws.{RootAdmits, NarrowKeeps, DeadAdmitsNone};
 ghost use Rattle.cpt_soundness.specs.Children.{ChildrenCover};
 ghost use Rattle.cpt_soundness.specs.Forming.{RootFormed, NarrowFormed, ApplyFormed, ChildrenFit};
@@ -10,6 +10,12 @@ ghost use Rattle.cpt_soundness.specs.Tree.{TreeRefutes};
 /// tables between their beginnings.
 pub fn gaps_kept()
     ensures { GapsKept }
+{}
+
+/// Where someone supplies an atom that another needs, an occurrence that deletes it, and is neither of the two, ends
+/// before the one begins or begins after the other ends.
+pub fn deleters_keep_away()
+    ensures { DeletersKeepAway }
 {}
 
 /// The root admits every valid plan with a makespan of at most its bound, under every map.
