@@ -6,8 +6,7 @@ mod laws;
 mod sets;
 
 pub use laws::{
-    apply_formed, children_cover, children_fit, dead_admits_none, deleters_keep_away, gaps_kept, narrow_formed,
-    narrow_keeps, root_admits, root_formed, tree_refutes,
+    apply_formed, children_cover, children_fit, dead_admits_none, deleters_keep_away, gaps_kept,
+    narrow_formed, narrow_keeps, root_admits, root_formed, tree_refutes,
 };
-
 pub use sets::tell_sets;
