@@ -23,7 +23,7 @@ use Rattle.cpt_sheet.specs.Roles.{needs_of, adds_of}
 use Rattle.cpt_sheet.specs.Gaps.{reach}
 use Rattle.cpt_calculus.specs.Plans.{Who, begins, IsAdder, IsNoEarlier, Supplies}
 use Rattle.cpt_calculus.specs.Plans.Who.{begin, finish, place}
-use Rattle.cpt_soundness.specs.Acting.{IsAdmissible, kind_who, IsWithin, IsAhead, KeepsGaps, GapsKept, DeletersKeepAway}
+use Rattle.cpt_soundness.specs.Acting.{IsAdmissible, kind_who, IsWithin, IsAhead, KeepsGaps, GapsKept, DeletersKeepAway, GoalBounds}
 
 zero_add_le : (g : Span) (m : ℕ) → g ≤ˢ At m → (At 0 +ˢ g) ≤ˢ At m
 zero_add_le (At g) m h = omega arith
@@ -264,3 +264,6 @@ gaps_kept t b plan ok valid = keeps_gaps t b plan ok valid
 
 pub deleters_keep_away : DeletersKeepAway
 deleters_keep_away t plan d p w u inside valid l lu del need sup nw nu = cleared t plan inside valid d p w u l lu del need sup nw nu
+
+pub goal_bounds : GoalBounds
+goal_bounds t b plan ok valid = set_by t b plan ok valid finish tt

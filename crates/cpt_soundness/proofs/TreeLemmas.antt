@@ -1,5 +1,8 @@
 -- a closed tree refutes
-use Rattle.std.proofs.Common.{ℕ, List, length}
+use Rattle.std.proofs.Common.{ℕ, List, [], ◌∷◌, length, subst}
+use Rattle.std.proofs.lemmas.List.Elements.{All-contains}
+use Rattle.cpt_calculus.specs.Rules.{narrowed}
+use Rattle.cpt_calculus.specs.Flaws.{children}
 use Rattle.cpt_task.specs.declared.plan.Occ.{Occ}
 use Rattle.cpt_task.specs.Shape.{TaskShape}
 use Rattle.cpt_task.specs.Timeline.{IsValid}
@@ -13,7 +16,7 @@ use Rattle.cpt_calculus.specs.Plans.{Admits}
 use Rattle.cpt_soundness.specs.Acting.{IsAdmissible}
 use Rattle.cpt_soundness.specs.Sets.{HasSets}
 use Rattle.cpt_soundness.specs.Children.{with_place, AdmitsAfter}
-use Rattle.cpt_soundness.specs.Tree.{IsClosedTree, TreeRefutes}
+use Rattle.cpt_soundness.specs.Tree.{IsClosedTree, TreeRefutes, StepsClose, BranchesClose}
 use Rattle.cpt_soundness.specs.Tree.IsClosedTree.{close, narrow, branch}
 use Rattle.cpt_sheet.specs.Formed.{IsFormed}
 use Rattle.cpt_calculus.proofs.Keeps.{step_formed}
@@ -43,3 +46,10 @@ closed_admits_none t b plan sets ok valid s (branch r flaw stands trees) formed 
 pub tree_refutes : TreeRefutes
 tree_refutes t b m sets ok fit few tree plan valid short =
     closed_admits_none t b plan sets ok valid (root_of t b m) tree (root_formed t b m ok.bounds fit few) (λ x. x) (root_admits t b m plan (λ x. x) ok valid short)
+
+pub steps_close : StepsClose
+steps_close rules t b s [] u e tree = subst (λ z. IsClosedTree t b z) e tree
+steps_close rules t b s (step ∷ steps) u k tree = narrow s step k.1 (steps_close rules t b (narrowed s step) steps u k.2 tree)
+
+pub branches_close : BranchesClose
+branches_close t b s flaw stands all = branch s flaw stands (λ d m. All-contains (λ e. IsClosedTree t b (applied t s e)) (children s flaw) d all m)

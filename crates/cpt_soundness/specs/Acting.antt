@@ -2,9 +2,10 @@ use Rattle.std.specs.Prelude.{◌≡◌, ◌≢◌, ℕ, ◌<◌, ◌≤◌, ◌
 use Rattle.cpt_task.specs.declared.plan.Occ.{Occ}
 use Rattle.cpt_task.specs.declared.span.Span.TheVariants.{At}
 use Rattle.cpt_task.specs.Shape.{TaskShape, InBounds}
-use Rattle.cpt_task.specs.Timeline.{IsValid, action_of, occurrence_at}
+use Rattle.cpt_task.specs.Timeline.{IsValid, action_of, occurrence_at, makespan}
 use Rattle.cpt_tables.specs.declared.tables.Tables.{Tables}
 use Rattle.cpt_tables.specs.Spans.{◌≤ˢ◌, ◌+ˢ◌}
+use Rattle.cpt_tables.specs.Shapes.{set_span_of}
 use Rattle.cpt_tables.specs.Admissible.{IsAdmissiblePairs, IsAdmissibleDists}
 use Rattle.cpt_sheet.specs.declared.data.Kind.{Kind}
 use Rattle.cpt_sheet.specs.declared.data.Kind.TheVariants.{Start, End, Act}
@@ -54,3 +55,8 @@ DeletersKeepAway =
     (t : TaskShape) (plan : List Occ) (d p : ℕ) (w u : Who) → InBounds t → IsValid t plan → d < length plan → IsWithin plan u →
     Contains (action_of t (occurrence_at plan d)).dele p → Contains (needs_of t (kind_who plan u)) p → Supplies t plan p (begins t plan u) w →
     place d ≢ w → place d ≢ u → IsAhead t plan (place d) w ⊎ IsAhead t plan u (place d)
+
+-- over admissible tables every valid plan has at least the makespan at which the goal can hold: there is none where
+-- that is Never
+abbrev pub GoalBounds : Type 0
+GoalBounds = (t : TaskShape) (b : Tables) (plan : List Occ) → IsAdmissible t b → IsValid t plan → set_span_of b.pairs t.goal ≤ˢ At (makespan t plan)

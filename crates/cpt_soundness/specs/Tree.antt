@@ -1,4 +1,4 @@
-use Rattle.std.specs.Prelude.{ℕ, ◌≤◌, Contains}
+use Rattle.std.specs.Prelude.{ℕ, ◌≤◌, List, All, Contains}
 use Rattle.cpt_task.specs.Shape.{TaskShape}
 use Rattle.cpt_task.specs.Optimal.{IsRefuted}
 use Rattle.cpt_tables.specs.declared.tables.Tables.{Tables}
@@ -12,6 +12,7 @@ use Rattle.cpt_calculus.specs.Rules.{IsLegal, narrowed}
 use Rattle.cpt_calculus.specs.Decisions.{applied}
 use Rattle.cpt_calculus.specs.Flaws.{IsFlaw, children}
 use Rattle.cpt_calculus.specs.Root.{root_of}
+use Rattle.cpt_calculus.specs.Closing.{Leads}
 use Rattle.cpt_soundness.specs.Acting.{IsAdmissible}
 use Rattle.cpt_soundness.specs.Sets.{HasSets}
 
@@ -26,3 +27,13 @@ pub data IsClosedTree (t : TaskShape) (b : Tables) : Sheet → Type 0 where
 abbrev pub TreeRefutes : Type 0
 TreeRefutes =
     (t : TaskShape) (b : Tables) (m : ℕ) → HasSets t → IsAdmissible t b → FitsTask t b → m ≤ 1000000 → IsClosedTree t b (root_of t b m) → IsRefuted t m
+
+-- where legal steps lead on from a sheet to one with a closed tree, a closed tree stands over it
+abbrev pub StepsClose : Type 0
+StepsClose =
+    (rules : List ℕ) (t : TaskShape) (b : Tables) (s : Sheet) (steps : List Step) (u : Sheet) → Leads rules t b s steps u → IsClosedTree t b u → IsClosedTree t b s
+
+-- where a closed tree stands over the sheet after each child of a flaw, one stands over the sheet
+abbrev pub BranchesClose : Type 0
+BranchesClose =
+    (t : TaskShape) (b : Tables) (s : Sheet) (flaw : Flaw) → IsFlaw t s flaw → All (λ d. IsClosedTree t b (applied t s d)) (children s flaw) → IsClosedTree t b s

@@ -1,15 +1,21 @@
 //! The laws.
 
-ghost use Rattle.cpt_soundness.specs.Acting.{DeletersKeepAway, GapsKept};
+ghost use Rattle.cpt_soundness.specs.Acting.{DeletersKeepAway, GapsKept, GoalBounds};
 ghost use Rattle.cpt_soundness.specs.Laws.{RootAdmits, NarrowKeeps, DeadAdmitsNone};
 ghost use Rattle.cpt_soundness.specs.Children.{ChildrenCover};
 ghost use Rattle.cpt_soundness.specs.Forming.{RootFormed, NarrowFormed, ApplyFormed, ChildrenFit};
-ghost use Rattle.cpt_soundness.specs.Tree.{TreeRefutes};
+ghost use Rattle.cpt_soundness.specs.Tree.{BranchesClose, StepsClose, TreeRefutes};
 
 /// Over admissible tables every valid plan keeps the gaps: who ends before another begins leaves the gap of the
 /// tables between their beginnings.
 pub fn gaps_kept()
     ensures { GapsKept }
+{}
+
+/// Over admissible tables every valid plan has at least the makespan at which the goal can hold, and there is none where
+/// that is `Never`.
+pub fn goal_bounds()
+    ensures { GoalBounds }
 {}
 
 /// Where someone supplies an atom that another needs, an occurrence that deletes it, and is neither of the two, ends
@@ -57,6 +63,16 @@ pub fn apply_formed()
 /// The children of a flaw of a formed sheet fit.
 pub fn children_fit()
     ensures { ChildrenFit }
+{}
+
+/// Where legal steps lead on from a sheet to one with a closed tree, a closed tree stands over it.
+pub fn steps_close()
+    ensures { StepsClose }
+{}
+
+/// Where a closed tree stands over the sheet after each child of a flaw, one stands over the sheet.
+pub fn branches_close()
+    ensures { BranchesClose }
 {}
 
 /// Where a closed tree stands over the root of a bound, of legal steps, of branches on flaws with all their children
