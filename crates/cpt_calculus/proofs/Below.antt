@@ -36,7 +36,7 @@ token_refl t = (refl, interval_refl t.span, zip_refl NeedBelow need_refl t.lists
 pub list_cons : (q : ℕ) (n : Need) (ns : List Need) → list_for q (n ∷ ns) ≡ (if n.atom == q then n.cands else list_for q ns)
 list_cons q n ns =
     elim (n.atom == q) as (λ t. option_map_or (λ m. m.cands) (if t then Some n else find (λ m. m.atom == q) ns) [] ≡ (if t then n.cands else list_for q ns))
-      [ true ↦ refl | false ↦ refl ]
+    [ true ↦ refl | false ↦ refl ]
 
 -- the lists of one atom
 pub lists_part : (p : ℕ) (ns ms : List Need) → AllZip NeedBelow ns ms → Part (list_for p ms) (list_for p ns)
@@ -45,10 +45,10 @@ lists_part p [] (m ∷ ms) h = absurd h
 lists_part p (n ∷ ns) [] h = absurd h
 lists_part p (n ∷ ns) (m ∷ ms) h =
     subst (λ l. Part l (list_for p (n ∷ ns))) (sym (list_cons p m ms))
-      (subst (λ l. Part (if m.atom == p then m.cands else list_for p ms) l) (sym (list_cons p n ns))
-        (subst (λ z. Part (if z == p then m.cands else list_for p ms) (if n.atom == p then n.cands else list_for p ns)) (sym h.0.0)
-          (elim (n.atom == p) as (λ t. Part (if t then m.cands else list_for p ms) (if t then n.cands else list_for p ns))
-            [ true ↦ h.0.1 | false ↦ lists_part p ns ms h.1 ])))
+    (subst (λ l. Part (if m.atom == p then m.cands else list_for p ms) l) (sym (list_cons p n ns))
+    (subst (λ z. Part (if z == p then m.cands else list_for p ms) (if n.atom == p then n.cands else list_for p ns)) (sym h.0.0)
+    (elim (n.atom == p) as (λ t. Part (if t then m.cands else list_for p ms) (if t then n.cands else list_for p ns))
+    [ true ↦ h.0.1 | false ↦ lists_part p ns ms h.1 ])))
 
 pub atoms_same : (p : ℕ) (ns ms : List Need) → AllZip NeedBelow ns ms → has_atom p ms ≡ has_atom p ns
 atoms_same p [] [] h = refl
@@ -73,9 +73,10 @@ at_within (x ∷ xs) d P (suc i) h l = at_within xs d P i h.1 (omega arith)
 
 pub live_lists : (s : Sheet) → IsLive s → (x p : ℕ) → has_need s x p ≡ true → cands s x p ≢ []
 live_lists s live x p h =
-    elim (cases_lt x (length s.tokens))
-      [ inl l ↦ lists_live p (token_at s x).lists (recursion_from_All (λ n. n.cands ≢ []) (token_at s x).lists (at_within s.tokens no_token IsLiveToken x (recursion_from_All IsLiveToken s.tokens live) l).1) h
-      | inr m ↦ absurd (let e : has_atom p no_token.lists ≡ true = subst (λ t. has_atom p t.lists ≡ true) (at_past s.tokens no_token x m) h in cc) ]
+    elim (cases_lt x (length s.tokens)) [
+      | inl l ↦ lists_live p (token_at s x).lists (recursion_from_All (λ n. n.cands ≢ []) (token_at s x).lists (at_within s.tokens no_token IsLiveToken x (recursion_from_All IsLiveToken s.tokens live) l).1) h
+      | inr m ↦ absurd (let e : has_atom p no_token.lists ≡ true = subst (λ t. has_atom p t.lists ≡ true) (at_past s.tokens no_token x m) h in cc)
+    ]
 
 module _ (a b : Sheet) (below : IsBelowSheet a b) where
   pub token_below : (x : ℕ) → TokenBelow (token_at a x) (token_at b x)
@@ -112,9 +113,10 @@ pub order_with : (x y u v : ℕ) (os : List (ℕ × ℕ)) → has_order u v (wit
 order_with x y u v [] = refl
 order_with x y u v (o ∷ os) =
     elim (pair_lt x y o.0 o.1)
-      as (λ t. has_order u v (if t then ((x, y) ∷ (o ∷ os)) else (o ∷ with_order x y os)) ≡ (((x == u) && (y == v)) || has_order u v (o ∷ os)))
-      [ true ↦ refl
-      | false ↦ ap (λ t. ((o.0 == u) && (o.1 == v)) || t) (order_with x y u v os) ∙ or_swap ((o.0 == u) && (o.1 == v)) ((x == u) && (y == v)) (has_order u v os) ]
+    as (λ t. has_order u v (if t then ((x, y) ∷ (o ∷ os)) else (o ∷ with_order x y os)) ≡ (((x == u) && (y == v)) || has_order u v (o ∷ os))) [
+      | true ↦ refl
+      | false ↦ ap (λ t. ((o.0 == u) && (o.1 == v)) || t) (order_with x y u v os) ∙ or_swap ((o.0 == u) && (o.1 == v)) ((x == u) && (y == v)) (has_order u v os)
+    ]
 
 -- an order that stands is no news
 stands_already : (x y u v : ℕ) (os : List (ℕ × ℕ)) → has_order x y os ≡ true → (t : Bool) → ((x == u) && (y == v)) ≡ t → has_order u v os ≡ (t || has_order u v os)

@@ -35,7 +35,11 @@ use Rattle.cpt_calculus.proofs.Keeps.{step_formed}
 
 pub Below-refl : (s : Sheet) → IsBelowSheet s s
 Below-refl s = record {
-  bound = refl; tokens = zip_refl TokenBelow token_refl s.tokens; outs = zip_refl IntervalBelow interval_refl s.outs; orders = λ x y h. h }
+  bound = refl;
+  tokens = zip_refl TokenBelow token_refl s.tokens;
+  outs = zip_refl IntervalBelow interval_refl s.outs;
+  orders = λ x y h. h;
+}
 
 interval_trans : (i j k : Interval) → IntervalBelow i j → IntervalBelow j k → IntervalBelow i k
 interval_trans i j k h l = (le_trans i.lo j.lo k.lo h.0 l.0, omega arith)
@@ -51,7 +55,8 @@ Below-trans a b c h k = record {
   bound = k.bound ∙ h.bound;
   tokens = zip_trans TokenBelow token_trans a.tokens b.tokens c.tokens h.tokens k.tokens;
   outs = zip_trans IntervalBelow interval_trans a.outs b.outs c.outs h.outs k.outs;
-  orders = λ x y e. k.orders x y (h.orders x y e) }
+  orders = λ x y e. k.orders x y (h.orders x y e);
+}
 
 -- needs that lack a candidate in one list
 needs_keep : (p : ℕ) (c : Cand) (ns ms : List Need) → AllZip NeedBelow ns ms → has c (list_for p ms) ≡ false → AllZip NeedBelow (revised p (without c) ns) ms
@@ -70,7 +75,7 @@ needs_down : (p : ℕ) (c : Cand) (ns : List Need) → AllZip NeedBelow ns (revi
 needs_down p c [] = tt
 needs_down p c (n ∷ ns) =
     elim (n.atom == p) as (λ t. AllZip NeedBelow (n ∷ ns) (if t then (record n { cands = without c n.cands } ∷ ns) else (n ∷ revised p (without c) ns)))
-      [ true ↦ ((refl, Part-without c n.cands), zip_refl NeedBelow need_refl ns) | false ↦ (need_refl n, needs_down p c ns) ]
+    [ true ↦ ((refl, Part-without c n.cands), zip_refl NeedBelow need_refl ns) | false ↦ (need_refl n, needs_down p c ns) ]
 
 -- a change that does not move b keeps b below
 keep_token : (a b : Sheet) (x : ℕ) (t : Token) → IsBelowSheet a b → TokenBelow t (token_at b x) → IsBelowSheet (with_token a x t) b
@@ -92,24 +97,34 @@ keep a b (Lower c v) h n =
 keep a b (Take x p c) h n =
     let k = token_below a b h x in
     keep_token a b x (record (token_at a x) { lists = revised p (without c) (token_at a x).lists }) h
-      (k.0, k.1, needs_keep p c (token_at a x).lists (token_at b x).lists k.2 (false_from_ne_true _ n))
+    (k.0, k.1, needs_keep p c (token_at a x).lists (token_at b x).lists k.2 (false_from_ne_true _ n))
 keep a b (Post x y) h n = record {
-  bound = h.bound; tokens = h.tokens; outs = h.outs;
-  orders = λ u v e. elim (or_cases ((x == u) && (y == v)) (before a u v) (sym (order_posted x y u v a.orders) ∙ e))
-    [ inl k ↦ let m = and_parts (x == u) (y == v) k in subst (λ z. before b z v ≡ true) (eqb-true x u m.0) (subst (λ z. before b x z ≡ true) (eqb-true y v m.1) (true_from_ne_false (before b x y) n))
-    | inr k ↦ h.orders u v k ] }
+  bound = h.bound;
+  tokens = h.tokens;
+  outs = h.outs;
+  orders = λ u v e. elim (or_cases ((x == u) && (y == v)) (before a u v) (sym (order_posted x y u v a.orders) ∙ e)) [
+    | inl k ↦ let m = and_parts (x == u) (y == v) k in subst (λ z. before b z v ≡ true) (eqb-true x u m.0) (subst (λ z. before b x z ≡ true) (eqb-true y v m.1) (true_from_ne_false (before b x y) n))
+    | inr k ↦ h.orders u v k
+  ];
+}
 
 -- a change that moves a leads below a
 down_token : (a : Sheet) (x : ℕ) (t : Token) → TokenBelow (token_at a x) t → IsBelowSheet a (with_token a x t)
 down_token a x t r = record {
-  bound = refl; tokens = zip_set_right TokenBelow no_token t a.tokens a.tokens x (zip_refl TokenBelow token_refl a.tokens) r;
-  outs = zip_refl IntervalBelow interval_refl a.outs; orders = λ u v e. e }
+  bound = refl;
+  tokens = zip_set_right TokenBelow no_token t a.tokens a.tokens x (zip_refl TokenBelow token_refl a.tokens) r;
+  outs = zip_refl IntervalBelow interval_refl a.outs;
+  orders = λ u v e. e;
+}
 
 down_span : (a : Sheet) (c : Cand) (i : Interval) → IntervalBelow (span_of a c) i → IsBelowSheet a (with_span a c i)
 down_span a (Tok x) i r = down_token a x (record (token_at a x) { span = i }) (refl, r, zip_refl NeedBelow need_refl (token_at a x).lists)
 down_span a (Out y) i r = record {
-  bound = refl; tokens = zip_refl TokenBelow token_refl a.tokens;
-  outs = zip_set_right IntervalBelow no_span i a.outs a.outs y (zip_refl IntervalBelow interval_refl a.outs) r; orders = λ u v e. e }
+  bound = refl;
+  tokens = zip_refl TokenBelow token_refl a.tokens;
+  outs = zip_set_right IntervalBelow no_span i a.outs a.outs y (zip_refl IntervalBelow interval_refl a.outs) r;
+  orders = λ u v e. e;
+}
 
 lt_le : (a b : Span) → a <ˢ b → a ≤ˢ b
 lt_le a b h = elim (le_cases a b) [ inl k ↦ k | inr k ↦ lt_weak a b h ]
@@ -128,10 +143,13 @@ down a (Raise c v) m = down_span a c (record (span_of a c) { lo = v }) (lt_le (l
 down a (Lower c v) m = down_span a c (record (span_of a c) { hi = moment_or v (hi a c) }) (le_refl (lo a c), down_low a c v m)
 down a (Take x p c) m =
     down_token a x (record (token_at a x) { lists = revised p (without c) (token_at a x).lists })
-      (refl, interval_refl (token_at a x).span, needs_down p c (token_at a x).lists)
+    (refl, interval_refl (token_at a x).span, needs_down p c (token_at a x).lists)
 down a (Post x y) m = record {
-  bound = refl; tokens = zip_refl TokenBelow token_refl a.tokens; outs = zip_refl IntervalBelow interval_refl a.outs;
-  orders = λ u v e. order_posted x y u v a.orders ∙ or_right ((x == u) && (y == v)) (before a u v) e }
+  bound = refl;
+  tokens = zip_refl TokenBelow token_refl a.tokens;
+  outs = zip_refl IntervalBelow interval_refl a.outs;
+  orders = λ u v e. order_posted x y u v a.orders ∙ or_right ((x == u) && (y == v)) (before a u v) e;
+}
 
 -- what lies above a live sheet is live
 needs_above : (ns ms : List Need) → AllZip NeedBelow ns ms → All (λ m. m.cands ≢ []) ms → All (λ n. n.cands ≢ []) ns
@@ -143,9 +161,10 @@ pub live_above : (a b : Sheet) → IsBelowSheet a b → IsLive b → IsLive a
 live_above a b h l k d i =
     let t = get_or a.tokens k d in let u = get_or b.tokens k d in
     let r : TokenBelow t u = AllZip-get_or TokenBelow a.tokens b.tokens k d d h.tokens i in
-    let live : IsLiveToken u = l k d (subst (λ n. k < n) (length_all_zip TokenBelow a.tokens b.tokens h.tokens) i) in
-    ( le_trans t.span.lo u.span.lo (At t.span.hi) r.1.0 (le_trans u.span.lo (At u.span.hi) (At t.span.hi) live.0 r.1.1)
-    , needs_above t.lists u.lists r.2 live.1 )
+    let live : IsLiveToken u = l k d (subst (λ n. k < n) (length_all_zip TokenBelow a.tokens b.tokens h.tokens) i) in (
+      le_trans t.span.lo u.span.lo (At t.span.hi) r.1.0 (le_trans u.span.lo (At u.span.hi) (At t.span.hi) live.0 r.1.1),
+      needs_above t.lists u.lists r.2 live.1,
+    )
 
 dead_token : (z : Token) → IsDeadToken z → IsLiveToken z → ⊥
 dead_token z (inl h) l = lt_not_le (At z.span.hi) z.span.lo h l.0
@@ -185,10 +204,11 @@ module _ (rules : List ℕ) (t : TaskShape) (w : Tables) where
   below_end b live closed [] s u e h = subst (λ (z : Sheet). IsBelowSheet z b) (sym e) h
   below_end b live closed (step ∷ steps) s u (o, legal, rest) h =
       below_end b live closed steps (narrowed s step) u rest
-        (keep s b (change_of s step) h
-          (elim (step_mono t w s b h live step legal)
-            [ inl k ↦ absurd (closed step o k)
-            | inr n ↦ subst (λ ch. ¬ (Moves b ch)) (same_change t w s b h live step legal.allowed) n ]))
+      (keep s b (change_of s step) h
+      (elim (step_mono t w s b h live step legal) [
+        | inl k ↦ absurd (closed step o k)
+        | inr n ↦ subst (λ ch. ¬ (Moves b ch)) (same_change t w s b h live step legal.allowed) n
+      ]))
 
   leads_down : (steps : List Step) (s u : Sheet) → Leads rules t w s steps u → IsBelowSheet s u
   leads_down [] s u e = subst (λ (z : Sheet). IsBelowSheet s z) (sym e) (Below-refl s)
@@ -201,7 +221,8 @@ module _ (rules : List ℕ) (t : TaskShape) (w : Tables) where
   pub closes_live : (steps : List Step) (s u : Sheet) → IsFormed t s → Leads rules t w s steps u → IsLive u → IsClosed rules t w u → ClosesTo rules t w s (Some u)
   closes_live steps s u f h live closed = record {
     end = record { formed = leads_formed steps s u f h; below = leads_down steps s u h; live = live; closed = closed };
-    greatest = λ v e. below_end v e.live e.closed steps s u h e.below }
+    greatest = λ v e. below_end v e.live e.closed steps s u h e.below;
+  }
 
   pub closes_dead : (steps : List Step) (s u : Sheet) → Leads rules t w s steps u → IsDead u → ClosesTo rules t w s None
   closes_dead steps s u h dead = λ v e. dead_not_live u dead (live_above u v (below_end v e.live e.closed steps s u h e.below) e.live)

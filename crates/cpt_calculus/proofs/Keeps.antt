@@ -47,7 +47,6 @@ module _ (t : TaskShape) (s u : Sheet) (f : IsFormed t s)
     (more : (x y : ℕ) → before s x y ≡ true → before u x y ≡ true)
     (orders : (x y : ℕ) → before u x y ≡ true → IsPlaced s x y)
     (increasing : IsIncreasing u.orders) where
-
   placed : (x y : ℕ) → IsPlaced s x y → IsPlaced u x y
   placed x y h = record { first = subst (λ n. x < n) (sym tokens) h.first; second = subst (λ n. y < n) (sym tokens) h.second; different = h.different; forward = h.forward }
 
@@ -69,7 +68,8 @@ module _ (t : TaskShape) (s u : Sheet) (f : IsFormed t s)
     increasing = increasing;
     ends = more 0 1 f.ends;
     after_start = λ x h l. more 0 x (f.after_start x h (subst (λ n. x < n) tokens l));
-    before_end = λ x h l. more x 1 (f.before_end x h (subst (λ n. x < n) tokens l)) }
+    before_end = λ x h l. more x 1 (f.before_end x h (subst (λ n. x < n) tokens l));
+  }
 
 -- another interval that keeps within the bounds
 pub record IsFit (s : Sheet) (c : Cand) (i : Interval) : Type 0 where
@@ -80,35 +80,37 @@ pub record IsFit (s : Sheet) (c : Cand) (i : Interval) : Type 0 where
 pub span_formed : (t : TaskShape) (s : Sheet) (c : Cand) (i : Interval) → IsFormed t s → IsFit s c i → IsFormed t (with_span s c i)
 span_formed t s c i f h =
     formed_along t s (with_span s c i) f (tokens_with_span s c i) (outs_with_span s c i) (bound_with_span s c i) (kind_with_span s c i)
-      (λ y. ap (λ (l : List Need). map (λ (n : Need). n.atom) l) (lists_with_span s c i y))
-      (λ x p d k. subst (λ (l : List Need). has d (list_for p l) ≡ true) (lists_with_span s c i x) k)
-      (λ x p. subst (λ (l : List Need). IsAscending (list_for p l)) (sym (lists_with_span s c i x)) (f.ascending x p))
-      (λ d. subst (λ n. hi (with_span s c i) d ≤ n) (sym (bound_with_span s c i))
-        (elim (span_with s c d i) [ inl e ↦ subst (λ (z : Interval). z.hi ≤ s.bound) (sym e) (f.within d) | inr e ↦ subst (λ (z : Interval). z.hi ≤ s.bound) (sym e.1) h.high ]))
-      (λ a. elim (span_with s c (Out a) i) [ inl e ↦ subst (λ (z : Interval). IsBelow 2000000000000000 z.lo) (sym e) (f.outs_below a) | inr e ↦ subst (λ (z : Interval). IsBelow 2000000000000000 z.lo) (sym e.1) (h.out a (sym e.0)) ])
-      (λ x. elim (span_with s c (Tok x) i) [ inl e ↦ subst (λ (z : Interval). IsBelow 4000000000000000 z.lo) (sym e) (f.tokens_below x) | inr e ↦ subst (λ (z : Interval). IsBelow 4000000000000000 z.lo) (sym e.1) h.tok ])
-      (λ x y k. subst (λ os. has_order x y os ≡ true) (sym (orders_with_span s c i)) k)
-      (λ x y k. f.orders x y (subst (λ os. has_order x y os ≡ true) (orders_with_span s c i) k))
-      (subst (λ os. IsIncreasing os) (sym (orders_with_span s c i)) f.increasing)
+    (λ y. ap (λ (l : List Need). map (λ (n : Need). n.atom) l) (lists_with_span s c i y))
+    (λ x p d k. subst (λ (l : List Need). has d (list_for p l) ≡ true) (lists_with_span s c i x) k)
+    (λ x p. subst (λ (l : List Need). IsAscending (list_for p l)) (sym (lists_with_span s c i x)) (f.ascending x p))
+    (λ d. subst (λ n. hi (with_span s c i) d ≤ n) (sym (bound_with_span s c i))
+    (elim (span_with s c d i) [ inl e ↦ subst (λ (z : Interval). z.hi ≤ s.bound) (sym e) (f.within d) | inr e ↦ subst (λ (z : Interval). z.hi ≤ s.bound) (sym e.1) h.high ]))
+    (λ a. elim (span_with s c (Out a) i) [ inl e ↦ subst (λ (z : Interval). IsBelow 2000000000000000 z.lo) (sym e) (f.outs_below a) | inr e ↦ subst (λ (z : Interval). IsBelow 2000000000000000 z.lo) (sym e.1) (h.out a (sym e.0)) ])
+    (λ x. elim (span_with s c (Tok x) i) [ inl e ↦ subst (λ (z : Interval). IsBelow 4000000000000000 z.lo) (sym e) (f.tokens_below x) | inr e ↦ subst (λ (z : Interval). IsBelow 4000000000000000 z.lo) (sym e.1) h.tok ])
+    (λ x y k. subst (λ os. has_order x y os ≡ true) (sym (orders_with_span s c i)) k)
+    (λ x y k. f.orders x y (subst (λ os. has_order x y os ≡ true) (orders_with_span s c i) k))
+    (subst (λ os. IsIncreasing os) (sym (orders_with_span s c i)) f.increasing)
 
 -- another list whose candidates were in the old one
 pub list_formed : (t : TaskShape) (s : Sheet) (x p : ℕ) (g : List Cand → List Cand) → IsFormed t s →
     ((c : Cand) → has c (g (cands s x p)) ≡ true → has c (cands s x p) ≡ true) → IsAscending (g (cands s x p)) → IsFormed t (with_list s x p g)
 list_formed t s x p g f fewer asc =
     formed_along t s (with_list s x p g) f (count_with s x (record (token_at s x) { lists = revised p g (token_at s x).lists })) refl refl (kind_with_list s x p g) (atoms_with_list s x p g)
-      (λ y q c k. elim (cands_with_list s x p g y q)
-        [ inl e ↦ subst (λ (l : List Cand). has c l ≡ true) e k
-        | inr e ↦ subst (λ z. has c (cands s z q) ≡ true) (sym e.0) (subst (λ z. has c (cands s x z) ≡ true) (sym e.1)
-            (fewer c (subst (λ z. has c (g (cands s x z)) ≡ true) e.1 (subst (λ z. has c (g (cands s z q)) ≡ true) e.0 (subst (λ (l : List Cand). has c l ≡ true) e.2 k))))) ])
-      (λ y q. elim (cands_with_list s x p g y q)
-        [ inl e ↦ subst (λ (l : List Cand). IsAscending l) (sym e) (f.ascending y q)
-        | inr e ↦ subst (λ (l : List Cand). IsAscending l) (sym e.2) (subst (λ z. IsAscending (g (cands s z q))) (sym e.0) (subst (λ z. IsAscending (g (cands s x z))) (sym e.1) asc)) ])
-      (λ d. subst (λ (z : Interval). z.hi ≤ s.bound) (sym (span_with_list s x p g d)) (f.within d))
-      (λ a. f.outs_below a)
-      (λ y. subst (λ (z : Interval). IsBelow 4000000000000000 z.lo) (sym (span_with_list s x p g (Tok y))) (f.tokens_below y))
-      (λ y z k. k)
-      (λ y z k. f.orders y z k)
-      f.increasing
+    (λ y q c k. elim (cands_with_list s x p g y q) [
+      | inl e ↦ subst (λ (l : List Cand). has c l ≡ true) e k
+      | inr e ↦ subst (λ z. has c (cands s z q) ≡ true) (sym e.0) (subst (λ z. has c (cands s x z) ≡ true) (sym e.1)
+          (fewer c (subst (λ z. has c (g (cands s x z)) ≡ true) e.1 (subst (λ z. has c (g (cands s z q)) ≡ true) e.0 (subst (λ (l : List Cand). has c l ≡ true) e.2 k)))))
+    ])
+    (λ y q. elim (cands_with_list s x p g y q) [
+      | inl e ↦ subst (λ (l : List Cand). IsAscending l) (sym e) (f.ascending y q)
+      | inr e ↦ subst (λ (l : List Cand). IsAscending l) (sym e.2) (subst (λ z. IsAscending (g (cands s z q))) (sym e.0) (subst (λ z. IsAscending (g (cands s x z))) (sym e.1) asc))
+    ])
+    (λ d. subst (λ (z : Interval). z.hi ≤ s.bound) (sym (span_with_list s x p g d)) (f.within d))
+    (λ a. f.outs_below a)
+    (λ y. subst (λ (z : Interval). IsBelow 4000000000000000 z.lo) (sym (span_with_list s x p g (Tok y))) (f.tokens_below y))
+    (λ y z k. k)
+    (λ y z k. f.orders y z k)
+    f.increasing
 
 ascending_without : (c : Cand) (cs : List Cand) → IsAscending cs → IsAscending (without c cs)
 ascending_without c [] h = h
@@ -122,11 +124,12 @@ ascending_without c (d ∷ cs) h = go (same d c) (ascending_without c cs h.1)
 pub posted_formed : (t : TaskShape) (s : Sheet) (x y : ℕ) → IsFormed t s → IsPlaced s x y → IsFormed t (with_posted s x y)
 posted_formed t s x y f h =
     formed_along t s (with_posted s x y) f refl refl refl (λ z. refl) (λ z. refl) (λ z q c k. k) f.ascending f.within f.outs_below f.tokens_below
-      (λ u v k. order_posted x y u v s.orders ∙ or_right ((x == u) && (y == v)) (before s u v) k)
-      (λ u v k. elim (or_cases ((x == u) && (y == v)) (before s u v) (sym (order_posted x y u v s.orders) ∙ k))
-        [ inl m ↦ (let e = and_parts (x == u) (y == v) m in subst (λ z. IsPlaced s z v) (eqb-true x u e.0) (subst (λ z. IsPlaced s x z) (eqb-true y v e.1) h))
-        | inr m ↦ f.orders u v m ])
-      (go (has_order x y s.orders) refl)
+    (λ u v k. order_posted x y u v s.orders ∙ or_right ((x == u) && (y == v)) (before s u v) k)
+    (λ u v k. elim (or_cases ((x == u) && (y == v)) (before s u v) (sym (order_posted x y u v s.orders) ∙ k)) [
+      | inl m ↦ (let e = and_parts (x == u) (y == v) m in subst (λ z. IsPlaced s z v) (eqb-true x u e.0) (subst (λ z. IsPlaced s x z) (eqb-true y v e.1) h))
+      | inr m ↦ f.orders u v m
+    ])
+    (go (has_order x y s.orders) refl)
   where
     go : (b : Bool) → has_order x y s.orders ≡ b → IsIncreasing (if b then s.orders else with_order x y s.orders)
     go true e = f.increasing
@@ -135,9 +138,10 @@ posted_formed t s x y f h =
 -- tokens that are there
 need_there : (s : Sheet) (x p : ℕ) → has_need s x p ≡ true → x < length s.tokens
 need_there s x p h =
-    elim (cases_lt x (length s.tokens))
-      [ inl l ↦ l
-      | inr m ↦ absurd (let e : has_atom p no_token.lists ≡ true = subst (λ t. has_atom p t.lists ≡ true) (at_past s.tokens no_token x m) h in cc) ]
+    elim (cases_lt x (length s.tokens)) [
+      | inl l ↦ l
+      | inr m ↦ absurd (let e : has_atom p no_token.lists ≡ true = subst (λ t. has_atom p t.lists ≡ true) (at_past s.tokens no_token x m) h in cc)
+    ]
 
 -- a kind that deletes an atom is an action's
 deletes_act : (t : TaskShape) (k : Kind) (p : ℕ) → Deletes t k p → (a : ℕ) × (k ≡ Act a)
@@ -174,9 +178,10 @@ act_token : (t : TaskShape) (s : Sheet) (x a : ℕ) → IsFormed t s → kind_of
 act_token t s zero a f e = let k = f.start in cc
 act_token t s (suc zero) a f e = let k = f.end in cc
 act_token t s (suc (suc x)) a f e =
-    elim (cases_lt (suc (suc x)) (length s.tokens))
-      [ inl l ↦ record { behind = omega arith; there = l }
-      | inr m ↦ absurd (let k : no_token.kind ≡ Act a = subst (λ (z : Token). z.kind ≡ Act a) (at_past s.tokens no_token (suc (suc x)) m) e in cc) ]
+    elim (cases_lt (suc (suc x)) (length s.tokens)) [
+      | inl l ↦ record { behind = omega arith; there = l }
+      | inr m ↦ absurd (let k : no_token.kind ≡ Act a = subst (λ (z : Token). z.kind ≡ Act a) (at_past s.tokens no_token (suc (suc x)) m) e in cc)
+    ]
 
 deleting_token : (t : TaskShape) (s : Sheet) (d p : ℕ) → IsFormed t s → Deletes t (kind_of s (Tok d)) p → IsActionToken s d
 deleting_token t s d p f h = let k = deletes_act t (kind_of s (Tok d)) p h in act_token t s d k.0 f k.1
@@ -208,7 +213,8 @@ module _ (t : TaskShape) (s : Sheet) (f : IsFormed t s) where
       (record {
         out = λ a e. subst (λ z. IsBelow 2000000000000000 (lo s z)) (sym e) (f.outs_below a);
         tok = lo_below t s c f;
-        high = (let l = low s c v m in let k = f.within c in omega arith) })
+        high = (let l = low s c v m in let k = f.within c in omega arith);
+      })
 
   take_any : (x p : ℕ) (c : Cand) → IsFormed t (changed s (Take x p c))
   take_any x p c = list_formed t s x p (without c) f (λ d k. Part-has d (Part-without c (cands s x p)) k) (ascending_without c (cands s x p) (f.ascending x p))

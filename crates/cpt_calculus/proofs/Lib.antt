@@ -1,3 +1,4 @@
+pub mod Adders
 pub mod Behind
 pub mod Below
 pub mod Confluence
@@ -6,6 +7,8 @@ pub mod Keeps
 pub mod Monotone
 pub mod Orders
 pub mod Parts
+pub mod RootFormed
+pub mod Snocs
 pub mod Stays
 pub mod Takes
 pub mod Views

@@ -54,18 +54,18 @@ moves_cases s (Post x y) = elim (cases_Bool (before s x y)) [ inl h ↦ inr (λ 
 module _ (t : TaskShape) (w : Tables) (a b : Sheet) (below : IsBelowSheet a b) where
   arrival_mono : (c d : Cand) → arrival t w a c d ≤ˢ arrival t w b c d
   arrival_mono c d =
-    subst (λ k. (lo a c +ˢ gap t w (kind_of a c) (kind_of a d)) ≤ˢ (lo b c +ˢ gap t w k (kind_of b d))) (sym (kinds a b below c))
+      subst (λ k. (lo a c +ˢ gap t w (kind_of a c) (kind_of a d)) ≤ˢ (lo b c +ˢ gap t w k (kind_of b d))) (sym (kinds a b below c))
       (subst (λ k. (lo a c +ˢ gap t w (kind_of a c) (kind_of a d)) ≤ˢ (lo b c +ˢ gap t w (kind_of a c) k)) (sym (kinds a b below d))
-        (add_mono (lo a c) (lo b c) (gap t w (kind_of a c) (kind_of a d)) (los a b below c)))
+      (add_mono (lo a c) (lo b c) (gap t w (kind_of a c) (kind_of a d)) (los a b below c)))
 
   later : (v : Span) (c d : Cand) → v ≤ˢ arrival t w a c d → v ≤ˢ arrival t w b c d
   later v c d h = le_trans v (arrival t w a c d) (arrival t w b c d) h (arrival_mono c d)
 
   deadline_mono : (c d : Cand) → deadline t w b c d ≤ˢ deadline t w a c d
   deadline_mono c d =
-    subst (λ k. At (back (hi b d) (gap t w k (kind_of b d))) ≤ˢ deadline t w a c d) (sym (kinds a b below c))
+      subst (λ k. At (back (hi b d) (gap t w k (kind_of b d))) ≤ˢ deadline t w a c d) (sym (kinds a b below c))
       (subst (λ k. At (back (hi b d) (gap t w (kind_of a c) k)) ≤ˢ deadline t w a c d) (sym (kinds a b below d))
-        (back_mono (hi b d) (hi a d) (gap t w (kind_of a c) (kind_of a d)) (his a b below d)))
+      (back_mono (hi b d) (hi a d) (gap t w (kind_of a c) (kind_of a d)) (his a b below d)))
 
   earlier : (v : Span) (c d : Cand) → deadline t w a c d ≤ˢ v → deadline t w b c d ≤ˢ v
   earlier v c d h = le_trans (deadline t w b c d) (deadline t w a c d) v (deadline_mono c d) h
@@ -82,11 +82,12 @@ module _ (t : TaskShape) (w : Tables) (a b : Sheet) (below : IsBelowSheet a b) w
   precede_back : (c d : Cand) → CanPrecede t w b c d → CanPrecede t w a c d
   precede_back c d h = record {
     in_time = le_trans (arrival t w a c d) (arrival t w b c d) (At (hi a d)) (arrival_mono c d) (le_trans (arrival t w b c d) (At (hi b d)) (At (hi a d)) h.in_time (at_mono d));
-    free = false_from_ne_true _ (λ e. both_ways (ordered b d c) h.free (ordered_mono d c e)) }
+    free = false_from_ne_true _ (λ e. both_ways (ordered b d c) h.free (ordered_mono d c e));
+  }
 
   clash_here : (c d : Cand) → Clash t (kind_of a c) (kind_of a d) → Clash t (kind_of b c) (kind_of b d)
   clash_here c d h =
-    subst (λ k. Clash t k (kind_of b d)) (sym (kinds a b below c)) (subst (λ k. Clash t (kind_of a c) k) (sym (kinds a b below d)) h)
+      subst (λ k. Clash t k (kind_of b d)) (sym (kinds a b below c)) (subst (λ k. Clash t (kind_of a c) k) (sym (kinds a b below d)) h)
 
   deletes_here : (c : Cand) (p : ℕ) → Deletes t (kind_of a c) p → Deletes t (kind_of b c) p
   deletes_here c p h = subst (λ k. Deletes t k p) (sym (kinds a b below c)) h
@@ -106,13 +107,13 @@ module _ (t : TaskShape) (w : Tables) (a b : Sheet) (below : IsBelowSheet a b) w
   -- the arrival from a token
   token_later : (i p : ℕ) (v : Span) (y z : Token) → TokenBelow y z → IsBeforeToken t w i p v y → IsBeforeToken t w i p v z
   token_later i p v y z r h adds =
-    subst (λ k. v ≤ˢ (z.span.lo +ˢ gap t w k (Act i))) (sym r.0)
+      subst (λ k. v ≤ˢ (z.span.lo +ˢ gap t w k (Act i))) (sym r.0)
       (le_trans v (y.span.lo +ˢ gap t w y.kind (Act i)) (z.span.lo +ˢ gap t w y.kind (Act i)) (h (subst (λ k. Adds t k p) r.0 adds))
-        (add_mono y.span.lo z.span.lo (gap t w y.kind (Act i)) r.1.0))
+      (add_mono y.span.lo z.span.lo (gap t w y.kind (Act i)) r.1.0))
 
   tokens_later : (i p : ℕ) (v : Span) → IsBeforeTokens t w a i p v → IsBeforeTokens t w b i p v
   tokens_later i p v h k d lt =
-    token_later i p v (get_or a.tokens k d) (get_or b.tokens k d) (AllZip-get_or TokenBelow a.tokens b.tokens k d d below.tokens (subst (λ n. k < n) (sym (length_all_zip TokenBelow a.tokens b.tokens below.tokens)) lt))
+      token_later i p v (get_or a.tokens k d) (get_or b.tokens k d) (AllZip-get_or TokenBelow a.tokens b.tokens k d d below.tokens (subst (λ n. k < n) (sym (length_all_zip TokenBelow a.tokens b.tokens below.tokens)) lt))
       (h k d (subst (λ n. k < n) (sym (length_all_zip TokenBelow a.tokens b.tokens below.tokens)) lt))
 
   outs_later : (i p : ℕ) (v : Span) → IsBeforeOuts t w a i p v → IsBeforeOuts t w b i p v
@@ -120,7 +121,10 @@ module _ (t : TaskShape) (w : Tables) (a b : Sheet) (below : IsBelowSheet a b) w
 
   exclude_here : (p q : ℕ) (c d : Cand) → Exclude t w a p q c d → Exclude t w b p q c d
   exclude_here p q c d (inl h) = inl (record {
-    clash = clash_here c d h.clash; not_first = λ k. h.not_first (precede_back c d k); not_last = λ k. h.not_last (precede_back d c k) })
+    clash = clash_here c d h.clash;
+    not_first = λ k. h.not_first (precede_back c d k);
+    not_last = λ k. h.not_last (precede_back d c k);
+  })
   exclude_here p q c d (inr h) = inr (record { first = deletes_here c q h.first; second = deletes_here d p h.second })
 
   impossible_here : (p q : ℕ) (c d : Cand) → IsImpossibleBeside t w a p q c d → IsImpossibleBeside t w b p q c d
@@ -136,7 +140,12 @@ module _ (t : TaskShape) (w : Tables) (a b : Sheet) (below : IsBelowSheet a b) w
 
     threat_here : (x p d y : ℕ) → IsThreatOf t a x p d y → IsThreatOf t b x p d y
     threat_here x p d y h = record {
-      need = need_here x p h.need; one = only_here x p y h.need h.one; deletes = deletes_here (Tok d) p h.deletes; other = h.other; different = h.different }
+      need = need_here x p h.need;
+      one = only_here x p y h.need h.one;
+      deletes = deletes_here (Tok d) p h.deletes;
+      other = h.other;
+      different = h.different;
+    }
 
     outside_here : (x p i y : ℕ) → IsOutsideThreat t a x p i y → IsOutsideThreat t b x p i y
     outside_here x p i y h = record { need = need_here x p h.need; one = only_here x p y h.need h.one; deletes = h.deletes }
@@ -169,14 +178,20 @@ module _ (t : TaskShape) (w : Tables) (a b : Sheet) (below : IsBelowSheet a b) w
     allowed_mono (R4 x p v) h m = record {
       need = need_here x p h.need;
       limit = part_all (λ c. v ≤ˢ arrival t w b c (Tok x)) (cands b x p) (cands a x p) (parts a b below x p)
-        (all_weaker (λ c. v ≤ˢ arrival t w a c (Tok x)) (λ c. v ≤ˢ arrival t w b c (Tok x)) (cands a x p) (λ c k. later v c (Tok x) k) h.limit);
-      moment = h.moment }
+          (all_weaker (λ c. v ≤ˢ arrival t w a c (Tok x)) (λ c. v ≤ˢ arrival t w b c (Tok x)) (cands a x p) (λ c k. later v c (Tok x) k) h.limit);
+      moment = h.moment;
+    }
     allowed_mono (R5 x p c) h m = record { listed = listed_here x p c h.listed m; late = λ k. h.late (precede_back c (Tok x) k) }
     allowed_mono (R6 x p) h m = record { need = need_here x p h.need; one = (h.one.0, only_here x p h.one.0 h.need h.one.1) }
     allowed_mono (R7 x p i) h m = record { listed = listed_here x p (Out i) h.listed m; shut = shut_here (Out i) h.shut }
     allowed_mono (R8 x p c d) h m = record {
-      listed = listed_here x p c h.listed m; deletes = deletes_here (Tok d) p h.deletes; other = h.other; different = h.different;
-      not_ahead = λ k. h.not_ahead (precede_back (Tok d) c k); not_after = λ k. h.not_after (precede_back (Tok x) (Tok d) k) }
+      listed = listed_here x p c h.listed m;
+      deletes = deletes_here (Tok d) p h.deletes;
+      other = h.other;
+      different = h.different;
+      not_ahead = λ k. h.not_ahead (precede_back (Tok d) c k);
+      not_after = λ k. h.not_after (precede_back (Tok x) (Tok d) k);
+    }
     allowed_mono (R9After x p d) h m = (h.0, threat_here x p d h.0 h.1, λ k. h.2 (precede_back (Tok d) (Tok h.0) k))
     allowed_mono (R9Ahead x p d) h m = (h.0, threat_here x p d h.0 h.1, λ k. h.2 (precede_back (Tok x) (Tok d) k))
     allowed_mono (R10 i p v) h m = record { need = h.need; tokens = tokens_later i p v h.tokens; outs = outs_later i p v h.outs; moment = h.moment }
@@ -187,12 +202,16 @@ module _ (t : TaskShape) (w : Tables) (a b : Sheet) (below : IsBelowSheet a b) w
     allowed_mono (R13 x p c q) h m = record {
       listed = listed_here x p c h.listed m;
       second = record { need = need_here x q h.second.need; different = h.second.different };
-      none = record { none = part_all (IsImpossibleBeside t w b p q c) (cands b x q) (cands a x q) (parts a b below x q)
-        (all_weaker (IsImpossibleBeside t w a p q c) (IsImpossibleBeside t w b p q c) (cands a x q) (λ d k. impossible_here p q c d k) h.none.none) } }
+      none = record {
+        none = part_all (IsImpossibleBeside t w b p q c) (cands b x q) (cands a x q) (parts a b below x q)
+            (all_weaker (IsImpossibleBeside t w a p q c) (IsImpossibleBeside t w b p q c) (cands a x q) (λ d k. impossible_here p q c d k) h.none.none);
+      };
+    }
 
     -- the law
     pub step_mono : (s : Step) → IsLegal t w a s → IsLegal t w b s ⊎ ¬ (Moves b (change_of b s))
     step_mono s h =
-        elim (moves_cases b (change_of b s))
-          [ inl m ↦ inl (record { live = live; allowed = allowed_mono s h.allowed m; moves = m })
-          | inr n ↦ inr n ]
+        elim (moves_cases b (change_of b s)) [
+          | inl m ↦ inl (record { live = live; allowed = allowed_mono s h.allowed m; moves = m })
+          | inr n ↦ inr n
+        ]

@@ -23,14 +23,15 @@ has_head o os = or_left ((o.0 == o.0) && (o.1 == o.1)) (has_order o.0 o.1 os) (a
 tail_part : (o p : ℕ × ℕ) (os ps : List (ℕ × ℕ)) → o.0 ≡ p.0 → o.1 ≡ p.1 → IsIncreasing (o ∷ os) →
     ((x y : ℕ) → has_order x y (o ∷ os) ≡ true → has_order x y (p ∷ ps) ≡ true) → (x y : ℕ) → has_order x y os ≡ true → has_order x y ps ≡ true
 tail_part o p os ps e d inc h x y k =
-    elim (or_cases ((p.0 == x) && (p.1 == y)) (has_order x y ps) (h x y (or_right ((o.0 == x) && (o.1 == y)) (has_order x y os) k)))
-      [ inl m ↦
+    elim (or_cases ((p.0 == x) && (p.1 == y)) (has_order x y ps) (h x y (or_right ((o.0 == x) && (o.1 == y)) (has_order x y os) k))) [
+      | inl m ↦
           (let n = and_parts (p.0 == x) (p.1 == y) m in
-           let l : pair_lt o.0 o.1 x y ≡ true = inc.0 x y k in
-           let a : o.0 ≡ x = e ∙ eqb-true p.0 x n.0 in
-           let b : o.1 ≡ y = d ∙ eqb-true p.1 y n.1 in
-           absurd (lt_asym o.0 o.1 x y l (subst (λ z. pair_lt z y o.0 o.1 ≡ true) a (subst (λ z. pair_lt o.0 z o.0 o.1 ≡ true) b (subst (λ z. pair_lt o.0 o.1 o.0 z ≡ true) (sym b) (subst (λ z. pair_lt o.0 o.1 z y ≡ true) (sym a) l))))))
-      | inr m ↦ m ]
+          let l : pair_lt o.0 o.1 x y ≡ true = inc.0 x y k in
+          let a : o.0 ≡ x = e ∙ eqb-true p.0 x n.0 in
+          let b : o.1 ≡ y = d ∙ eqb-true p.1 y n.1 in
+          absurd (lt_asym o.0 o.1 x y l (subst (λ z. pair_lt z y o.0 o.1 ≡ true) a (subst (λ z. pair_lt o.0 z o.0 o.1 ≡ true) b (subst (λ z. pair_lt o.0 o.1 o.0 z ≡ true) (sym b) (subst (λ z. pair_lt o.0 o.1 z y ≡ true) (sym a) l))))))
+      | inr m ↦ m
+    ]
 
 pub orders_same : (os ps : List (ℕ × ℕ)) → IsIncreasing os → IsIncreasing ps →
     ((x y : ℕ) → has_order x y os ≡ true → has_order x y ps ≡ true) → ((x y : ℕ) → has_order x y ps ≡ true → has_order x y os ≡ true) → os ≡ ps
@@ -39,11 +40,13 @@ orders_same [] (p ∷ ps) i j h k = let e = k p.0 p.1 (has_head p ps) in cc
 orders_same (o ∷ os) [] i j h k = let e = h o.0 o.1 (has_head o os) in cc
 orders_same (o ∷ os) (p ∷ ps) i j h k =
     let e : (o.0 ≡ p.0) × (o.1 ≡ p.1) =
-      elim (or_cases ((o.0 == p.0) && (o.1 == p.1)) (has_order p.0 p.1 os) (k p.0 p.1 (has_head p ps)))
-        [ inl m ↦ (let n = and_parts (o.0 == p.0) (o.1 == p.1) m in (eqb-true o.0 p.0 n.0, eqb-true o.1 p.1 n.1))
-        | inr m ↦ elim (or_cases ((p.0 == o.0) && (p.1 == o.1)) (has_order o.0 o.1 ps) (h o.0 o.1 (has_head o os)))
-            [ inl m' ↦ (let n = and_parts (p.0 == o.0) (p.1 == o.1) m' in (sym (eqb-true p.0 o.0 n.0), sym (eqb-true p.1 o.1 n.1)))
-            | inr m' ↦ absurd (lt_asym o.0 o.1 p.0 p.1 (i.0 p.0 p.1 m) (j.0 o.0 o.1 m')) ] ] in
+    elim (or_cases ((o.0 == p.0) && (o.1 == p.1)) (has_order p.0 p.1 os) (k p.0 p.1 (has_head p ps))) [
+      | inl m ↦ (let n = and_parts (o.0 == p.0) (o.1 == p.1) m in (eqb-true o.0 p.0 n.0, eqb-true o.1 p.1 n.1))
+      | inr m ↦ elim (or_cases ((p.0 == o.0) && (p.1 == o.1)) (has_order o.0 o.1 ps) (h o.0 o.1 (has_head o os))) [
+        | inl m' ↦ (let n = and_parts (p.0 == o.0) (p.1 == o.1) m' in (sym (eqb-true p.0 o.0 n.0), sym (eqb-true p.1 o.1 n.1)))
+        | inr m' ↦ absurd (lt_asym o.0 o.1 p.0 p.1 (i.0 p.0 p.1 m) (j.0 o.0 o.1 m'))
+      ]
+    ] in
     let rest = orders_same os ps i.1 j.1 (tail_part o p os ps e.0 e.1 i h) (tail_part p o ps os (sym e.0) (sym e.1) j k) in
     let pair : ℕ → ℕ → ℕ × ℕ = λ a b. (a, b) in
     ap (λ a. pair a o.1 ∷ os) e.0 ∙ (ap (λ b. pair p.0 b ∷ os) e.1 ∙ ap (λ l. p ∷ l) rest)
@@ -54,15 +57,19 @@ increasing_with x y [] n i = ((λ u v h. cc), tt)
 increasing_with x y (o ∷ os) n i = go (pair_lt x y o.0 o.1) refl (increasing_with x y os (or_parts ((o.0 == x) && (o.1 == y)) (has_order x y os) n).1 i.1)
   where
     go : (t : Bool) → pair_lt x y o.0 o.1 ≡ t → IsIncreasing (with_order x y os) → IsIncreasing (if t then ((x, y) ∷ (o ∷ os)) else (o ∷ with_order x y os))
-    go true e ih =
-        ( (λ u v h. elim (or_cases ((o.0 == u) && (o.1 == v)) (has_order u v os) h)
-            [ inl m ↦ (let k = and_parts (o.0 == u) (o.1 == v) m in subst (λ z. pair_lt x y z v ≡ true) (eqb-true o.0 u k.0) (subst (λ z. pair_lt x y o.0 z ≡ true) (eqb-true o.1 v k.1) e))
-            | inr m ↦ lt_trans x y o.0 o.1 u v e (i.0 u v m) ])
-        , i )
-    go false e ih =
-        ( (λ u v h. elim (or_cases ((x == u) && (y == v)) (has_order u v os) (sym (order_with x y u v os) ∙ h))
-            [ inl m ↦ (let k = and_parts (x == u) (y == v) m in
-                subst (λ z. pair_lt o.0 o.1 z v ≡ true) (eqb-true x u k.0) (subst (λ z. pair_lt o.0 o.1 x z ≡ true) (eqb-true y v k.1)
-                  (lt_total x y o.0 o.1 e (or_parts ((o.0 == x) && (o.1 == y)) (has_order x y os) n).0)))
-            | inr m ↦ i.0 u v m ])
-        , ih )
+    go true e ih = (
+      (λ u v h. elim (or_cases ((o.0 == u) && (o.1 == v)) (has_order u v os) h) [
+        | inl m ↦ (let k = and_parts (o.0 == u) (o.1 == v) m in subst (λ z. pair_lt x y z v ≡ true) (eqb-true o.0 u k.0) (subst (λ z. pair_lt x y o.0 z ≡ true) (eqb-true o.1 v k.1) e))
+        | inr m ↦ lt_trans x y o.0 o.1 u v e (i.0 u v m)
+      ]),
+      i,
+    )
+    go false e ih = (
+      (λ u v h. elim (or_cases ((x == u) && (y == v)) (has_order u v os) (sym (order_with x y u v os) ∙ h)) [
+        | inl m ↦ (let k = and_parts (x == u) (y == v) m in
+            subst (λ z. pair_lt o.0 o.1 z v ≡ true) (eqb-true x u k.0) (subst (λ z. pair_lt o.0 o.1 x z ≡ true) (eqb-true y v k.1)
+            (lt_total x y o.0 o.1 e (or_parts ((o.0 == x) && (o.1 == y)) (has_order x y os) n).0)))
+        | inr m ↦ i.0 u v m
+      ]),
+      ih,
+    )

@@ -44,9 +44,10 @@ pub Part-has : {xs ys : List Cand} (c : Cand) → Part xs ys → has c xs ≡ tr
 Part-has c done e = e
 Part-has c (skip {y} {xs} {ys} h) e = or_right (same y c) (has c ys) (Part-has c h e)
 Part-has c (keep {x} {xs} {ys} h) e =
-    elim (or_cases (same x c) (has c xs) e)
-      [ inl k ↦ or_left (same x c) (has c ys) k
-      | inr k ↦ or_right (same x c) (has c ys) (Part-has c h k) ]
+    elim (or_cases (same x c) (has c xs) e) [
+      | inl k ↦ or_left (same x c) (has c ys) k
+      | inr k ↦ or_right (same x c) (has c ys) (Part-has c h k)
+    ]
 
 pub Part-nil : (xs : List Cand) → Part xs [] → xs ≡ []
 Part-nil xs h = Part-full h (omega arith)
@@ -85,7 +86,7 @@ removed_at c [] i l h e = absurd (omega arith)
 removed_at c (x ∷ xs) zero l h e = subst (λ t. xs ≡ (if t then xs else x ∷ without c xs)) e refl
 removed_at c (x ∷ xs) (suc i) l h e =
     subst (λ t. remove (x ∷ xs) (suc i) ≡ (if t then xs else x ∷ without c xs)) (h 0 (omega arith))
-      (ap (λ z. x ∷ z) (removed_at c xs i (omega arith) (λ k j. h (suc k) (omega arith)) e))
+    (ap (λ z. x ∷ z) (removed_at c xs i (omega arith) (λ k j. h (suc k) (omega arith)) e))
 
 pub none_there : (c : Cand) (xs : List Cand) → ((k : ℕ) → k < length xs → IsSomeAnd (slice_get xs k) (λ d. false ≡ same d c)) → xs ≡ without c xs
 none_there c [] h = refl

@@ -14,13 +14,13 @@ revised_at p f (m ∷ ns) zero n cs l h e t w =
     let k : n ≡ m = e in
     let made : Need → List Cand → List Need = λ z y. record { atom = z.atom; cands = y } ∷ ns in
     ap (λ y. made n y) w ∙ (ap (λ z. made z (f z.cands)) k ∙
-      sym (subst (λ b. (if b then (record m { cands = f m.cands } ∷ ns) else (m ∷ revised p f ns)) ≡ made m (f m.cands)) (sym t) refl))
+    sym (subst (λ b. (if b then (record m { cands = f m.cands } ∷ ns) else (m ∷ revised p f ns)) ≡ made m (f m.cands)) (sym t) refl))
 revised_at p f (m ∷ ns) (suc i) n cs l h e t w =
     subst (λ b. (m ∷ set ns i (record { atom = n.atom; cands = cs })) ≡ (if b then (record m { cands = f m.cands } ∷ ns) else (m ∷ revised p f ns))) (sym (h 0 (omega arith)))
-      (ap (λ z. m ∷ z) (revised_at p f ns i n cs (omega arith) (λ k j. h (suc k) (omega arith)) e t w))
+    (ap (λ z. m ∷ z) (revised_at p f ns i n cs (omega arith) (λ k j. h (suc k) (omega arith)) e t w))
 
 pub not_there : (p : ℕ) (f : List Cand → List Cand) (ns : List Need) → ((k : ℕ) → k < length ns → ((unwrap_or (slice_get ns k) no_need).atom == p) ≡ false) → ns ≡ revised p f ns
 not_there p f [] h = refl
 not_there p f (m ∷ ns) h =
     subst (λ b. (m ∷ ns) ≡ (if b then (record m { cands = f m.cands } ∷ ns) else (m ∷ revised p f ns))) (sym (h 0 (omega arith)))
-      (ap (λ z. m ∷ z) (not_there p f ns (λ k j. h (suc k) (omega arith))))
+    (ap (λ z. m ∷ z) (not_there p f ns (λ k j. h (suc k) (omega arith))))

@@ -45,7 +45,7 @@ ClosesTo rules t b s None = HasNoClosure rules t b s
 pub data IsFresh (rules : List ℕ) (t : TaskShape) (tables : Tables) (b : ℕ) : List Decision → Option Sheet → Type 0 where
   at_root : (r : Option Sheet) → ClosesTo rules t tables (root_of t tables b) r → IsFresh rules t tables b [] r
   decided : (ds : List Decision) (s : Sheet) (d : Decision) (r : Option Sheet) →
-    IsFresh rules t tables b ds (Some s) → Fits s d → ClosesTo rules t tables (applied t s d) r → IsFresh rules t tables b (ds ++ d ∷ []) r
+      IsFresh rules t tables b ds (Some s) → Fits s d → ClosesTo rules t tables (applied t s d) r → IsFresh rules t tables b (ds ++ d ∷ []) r
 
 -- what these rules allow at a sheet they allow, or it changes nothing, at every sheet below that is not dead
 abbrev pub IsMonotone : List ℕ → Type 0

@@ -81,4 +81,4 @@ pub record Admits (t : TaskShape) (plan : List Occ) (f : ℕ → ℕ) (s : Sheet
   pub spans : (c : Cand) (w : Who) → StandsFor f plan s c w → (lo s c ≤ˢ At (begins t plan w)) × (begins t plan w ≤ hi s c)
   pub orders : (x y : ℕ) → before s x y ≡ true → ends t plan (who f s x) ≤ begins t plan (who f s y)
   pub supplied : (x p : ℕ) → has_need s x p ≡ true → (c : Cand) (w : Who) → StandsFor f plan s c w →
-    Supplies t plan p (begins t plan (who f s x)) w → has c (cands s x p) ≡ true
+      Supplies t plan p (begins t plan (who f s x)) w → has c (cands s x p) ≡ true

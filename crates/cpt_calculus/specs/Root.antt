@@ -41,7 +41,8 @@ bare_root t tables b = record {
   bound = b;
   tokens = start_token ∷ end_token t tables b ∷ [];
   outs = outs_at_root t tables b (length t.actions);
-  orders = (0, 1) ∷ [] }
+  orders = (0, 1) ∷ [];
+}
 
 -- The root sheet of a bound. The list of the end for an atom has all that add it: the start where the atom is
 -- initial, and each live outside action that adds it.

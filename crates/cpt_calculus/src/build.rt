@@ -19,12 +19,7 @@ fn is_adder(task: &Task, kind: Kind, p: u32) -> bool
     adds_of(task, kind).contains(&p)
 }
 
-fn token_adders_of(
-    alloc: Global,
-    task: &Task,
-    sheet: &Sheet,
-    p: u32,
-) -> Result<Vec<Cand>, Memory>
+fn token_adders_of(alloc: Global, task: &Task, sheet: &Sheet, p: u32) -> Result<Vec<Cand>, Memory>
     requires { length sheet.now.tokens < 2 ^ 32 }
     ensures { IfOk result (λ v. v.items ≡ token_adders task.now sheet.now p (length sheet.now.tokens)) }
 {

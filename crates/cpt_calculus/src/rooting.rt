@@ -1,6 +1,8 @@
 //! The root sheet of a bound.
 
-ghost use Rattle.std.specs.Prelude.{◌≡◌, ◌<◌, ◌≤◌, ◌^◌, ◌∷◌, [], map, IfOk, length};
+ghost use Rattle.std.specs.Prelude.{◌≡◌, ◌<◌, ◌≤◌, ◌^◌, ◌∷◌, [], map, IfOk, OnOk, length};
+ghost use Rattle.cpt_task.specs.Shape.{InBounds};
+ghost use Rattle.cpt_sheet.specs.Formed.{IsFormed};
 ghost use Rattle.cpt_sheet.specs.Gaps.{FitsTask, gap};
 ghost use Rattle.cpt_tables.specs.Shapes.{set_span_of};
 ghost use Rattle.cpt_tables.specs.Admissible.{nth_action};
@@ -38,14 +40,10 @@ fn out_of(task: &Task, tables: &Tables, bound: u64, act: u32) -> Interval
     window_of(first, left, bound)
 }
 
-fn outs_of(
-    alloc: Global,
-    task: &Task,
-    tables: &Tables,
-    bound: u64,
-) -> Result<Vec<Interval>, Memory>
+fn outs_of(alloc: Global, task: &Task, tables: &Tables, bound: u64) -> Result<Vec<Interval>, Memory>
     requires { FitsTask task.now tables.now }
-    ensures { IfOk result (λ v. v.items ≡ outs_at_root task.now tables.now bound (length task.now.actions)) }
+    ensures outs { IfOk result (λ v. v.items ≡ outs_at_root task.now tables.now bound (length task.now.actions)) }
+    ensures bounds { OnOk result (InBounds task.now) }
 {
     let mut outs = Vec::new(alloc);
     for a in 0..task.actions().len() {
@@ -100,7 +98,8 @@ fn first_order(alloc: Global) -> Result<List<(u32, u32)>, Memory>
 
 fn bare(alloc: Global, task: &Task, tables: &Tables, bound: u64) -> Result<Sheet, Memory>
     requires { FitsTask task.now tables.now }
-    ensures { IfOk result (λ s. s ≡ bare_root task.now tables.now bound) }
+    ensures sheet { IfOk result (λ s. s ≡ bare_root task.now tables.now bound) }
+    ensures bounds { OnOk result (InBounds task.now) }
 {
     let tokens = two_tokens(alloc, start(alloc), end(alloc, task, tables, bound))?;
     let outs = outs_of(alloc, task, tables, bound)?;
@@ -120,11 +119,10 @@ fn goal_lists(alloc: Global, task: &Task, sheet: &Sheet) -> Result<List<Need>, M
     needs_for(alloc, task, sheet, task.goal())
 }
 
-/// The root sheet of a bound: the start, the end and the outside intervals, with all that may add an atom of the goal.
-pub fn root(alloc: Global, task: &Task, tables: &Tables, bound: u64) -> Result<Sheet, Memory>
-    requires tables { FitsTask task.now tables.now }
-    requires bound { bound ≤ 1000000 }
-    ensures { IfOk result (λ s. s ≡ root_of task.now tables.now bound) }
+fn root_sheet(alloc: Global, task: &Task, tables: &Tables, bound: u64) -> Result<Sheet, Memory>
+    requires { FitsTask task.now tables.now }
+    ensures sheet { IfOk result (λ s. s ≡ root_of task.now tables.now bound) }
+    ensures bounds { OnOk result (InBounds task.now) }
 {
     let sheet = bare(alloc, task, tables, bound)?;
     let lists = goal_lists(alloc, task, &sheet)?;
@@ -139,4 +137,14 @@ pub fn root(alloc: Global, task: &Task, tables: &Tables, bound: u64) -> Result<S
         outs,
         orders,
     })
+}
+
+/// The root sheet of a bound: the start, the end and the outside intervals, with all that may add an atom of the goal.
+pub fn root(alloc: Global, task: &Task, tables: &Tables, bound: u64) -> Result<Sheet, Memory>
+    requires tables { FitsTask task.now tables.now }
+    requires bound { bound ≤ 1000000 }
+    ensures sheet { IfOk result (λ s. s ≡ root_of task.now tables.now bound) }
+    ensures formed { IfOk result (IsFormed task.now) }
+{
+    root_sheet(alloc, task, tables, bound)
 }

@@ -11,9 +11,9 @@ ghost use Rattle.cpt_sheet.specs.View.{kind_of, lo, hi, same, span_of, cands, ha
 ghost use Rattle.cpt_calculus.specs.Rules.{IsToken, only, IsTokenMoment, IsOutsideMoment, IsStep1, IsStep2, IsStep3, IsStep4, IsStep5, IsStep6, IsStep7, IsStep8, IsThreatOf, IsStep9After, IsStep9Ahead, IsListed, IsNoneBeside, IsOtherNeed, IsBeforeToken, IsBeforeTokens, IsBeforeOut, IsBeforeOuts, ComesAfter, ComesAhead, IsStep10, IsOutsideThreat, IsStep11After, IsStep11Ahead, IsStep12After, IsStep12Ahead, IsStep13, Allowed, change_of, Moves, IsLegal};
 
 use cpt_sheet::{
-    Cand, Change, Kind, Sheet, Step, Token, adds, arrives, can_precede, clash, deletes, gap, is_dead,
-    is_impossible_beside, is_listed, is_same, is_shut, kind, list, must_begin_by, needs, needs_of,
-    span, stands,
+    Cand, Change, Kind, Sheet, Step, Token, adds, arrives, can_precede, clash, deletes, gap,
+    is_dead, is_impossible_beside, is_listed, is_same, is_shut, kind, list, must_begin_by, needs,
+    needs_of, span, stands,
 };
 use cpt_tables::{Tables, add_spans, exceeds};
 use cpt_task::{Span, Task};
@@ -70,7 +70,10 @@ fn is_step2(task: &Task, tables: &Tables, sheet: &Sheet, x: u32, y: u32, v: Span
     ensures { MatchBool result (IsStep2 task.now tables.now sheet.now x y v) (IsStep2 task.now tables.now sheet.now x y v → ⊥) }
 {
     stands(sheet, x, y)
-        && is_no_later(must_begin_by(task, tables, sheet, Cand::Tok(x), Cand::Tok(y)), v)
+        && is_no_later(
+            must_begin_by(task, tables, sheet, Cand::Tok(x), Cand::Tok(y)),
+            v,
+        )
 }
 
 fn is_step3(task: &Task, tables: &Tables, sheet: &Sheet, x: u32, y: u32) -> bool
@@ -83,7 +86,14 @@ fn is_step3(task: &Task, tables: &Tables, sheet: &Sheet, x: u32, y: u32) -> bool
         && !can_precede(task, tables, sheet, Cand::Tok(y), Cand::Tok(x))
 }
 
-fn is_before_each(task: &Task, tables: &Tables, sheet: &Sheet, v: Span, list: &[Cand], d: Cand) -> bool
+fn is_before_each(
+    task: &Task,
+    tables: &Tables,
+    sheet: &Sheet,
+    v: Span,
+    list: &[Cand],
+    d: Cand,
+) -> bool
     requires tables { FitsTask task.now tables.now }
     requires formed { IsFormed task.now sheet.now }
     ensures { MatchBool result (All (λ c. v ≤ˢ arrival task.now tables.now sheet.now c d) list.now) (All (λ c. v ≤ˢ arrival task.now tables.now sheet.now c d) list.now → ⊥) }
@@ -123,8 +133,7 @@ fn is_step5(task: &Task, tables: &Tables, sheet: &Sheet, x: u32, p: u32, c: Cand
     requires formed { IsFormed task.now sheet.now }
     ensures { MatchBool result (IsStep5 task.now tables.now sheet.now x p c) (IsStep5 task.now tables.now sheet.now x p c → ⊥) }
 {
-    is_candidate(sheet, x, p, c)
-        && !can_precede(task, tables, sheet, c, Cand::Tok(x))
+    is_candidate(sheet, x, p, c) && !can_precede(task, tables, sheet, c, Cand::Tok(x))
 }
 
 fn is_step6(sheet: &Sheet, x: u32, p: u32) -> bool
@@ -136,19 +145,10 @@ fn is_step6(sheet: &Sheet, x: u32, p: u32) -> bool
 fn is_step7(sheet: &Sheet, x: u32, p: u32, a: u32) -> bool
     ensures { MatchBool result (IsStep7 sheet.now x p a) (IsStep7 sheet.now x p a → ⊥) }
 {
-    is_candidate(sheet, x, p, Cand::Out(a))
-        && is_shut(span(sheet, Cand::Out(a)))
+    is_candidate(sheet, x, p, Cand::Out(a)) && is_shut(span(sheet, Cand::Out(a)))
 }
 
-fn is_step8(
-    task: &Task,
-    tables: &Tables,
-    sheet: &Sheet,
-    x: u32,
-    p: u32,
-    c: Cand,
-    d: u32,
-) -> bool
+fn is_step8(task: &Task, tables: &Tables, sheet: &Sheet, x: u32, p: u32, c: Cand, d: u32) -> bool
     requires tables { FitsTask task.now tables.now }
     requires formed { IsFormed task.now sheet.now }
     ensures { MatchBool result (IsStep8 task.now tables.now sheet.now x p c d) (IsStep8 task.now tables.now sheet.now x p c d → ⊥) }
@@ -201,10 +201,11 @@ fn is_before_token(task: &Task, tables: &Tables, token: &Token, a: u32, p: u32, 
     requires small { IsBelow (2 ^ 63) token.now.span.lo }
     ensures { MatchBool result (IsBeforeToken task.now tables.now a p v token.now) (IsBeforeToken task.now tables.now a p v token.now → ⊥) }
 {
-    !adds(task, token.kind, p) || {
-        let apart = gap(task, tables, token.kind, Kind::Act(a));
-        is_no_later(v, add_spans(token.span.lo, apart))
-    }
+    !adds(task, token.kind, p)
+        || {
+            let apart = gap(task, tables, token.kind, Kind::Act(a));
+            is_no_later(v, add_spans(token.span.lo, apart))
+        }
 }
 
 fn is_before_each_token(
@@ -228,14 +229,7 @@ fn is_before_each_token(
 }
 
 #[tactic(auto, using(cpt_sheet::proofs::FormedLemmas::tokens_small))]
-fn is_before_tokens(
-    task: &Task,
-    tables: &Tables,
-    sheet: &Sheet,
-    a: u32,
-    p: u32,
-    v: Span,
-) -> bool
+fn is_before_tokens(task: &Task, tables: &Tables, sheet: &Sheet, a: u32, p: u32, v: Span) -> bool
     requires tables { FitsTask task.now tables.now }
     requires formed { IsFormed task.now sheet.now }
     ensures { MatchBool result (IsBeforeTokens task.now tables.now sheet.now a p v) (IsBeforeTokens task.now tables.now sheet.now a p v → ⊥) }
@@ -265,14 +259,7 @@ fn is_before_out(
     is_no_later(v, arrives(task, tables, sheet, Cand::Out(o), Cand::Out(a)))
 }
 
-fn is_before_outs(
-    task: &Task,
-    tables: &Tables,
-    sheet: &Sheet,
-    a: u32,
-    p: u32,
-    v: Span,
-) -> bool
+fn is_before_outs(task: &Task, tables: &Tables, sheet: &Sheet, a: u32, p: u32, v: Span) -> bool
     requires tables { FitsTask task.now tables.now }
     requires formed { IsFormed task.now sheet.now }
     ensures { MatchBool result (IsBeforeOuts task.now tables.now sheet.now a p v) (IsBeforeOuts task.now tables.now sheet.now a p v → ⊥) }
@@ -314,8 +301,7 @@ fn comes_after(task: &Task, tables: &Tables, sheet: &Sheet, x: u32, a: u32, v: S
     requires formed { IsFormed task.now sheet.now }
     ensures { MatchBool result (ComesAfter task.now tables.now sheet.now x a v) (ComesAfter task.now tables.now sheet.now x a v → ⊥) }
 {
-    is_outside_moment(v)
-        && is_no_later(v, arrives(task, tables, sheet, Cand::Tok(x), Cand::Out(a)))
+    is_outside_moment(v) && is_no_later(v, arrives(task, tables, sheet, Cand::Tok(x), Cand::Out(a)))
 }
 
 fn comes_ahead(task: &Task, tables: &Tables, sheet: &Sheet, a: u32, y: u32, v: Span) -> bool
@@ -429,15 +415,7 @@ fn is_none_beside(
     are_impossible(task, tables, sheet, p, q, c, list(sheet, x, q))
 }
 
-fn is_step13(
-    task: &Task,
-    tables: &Tables,
-    sheet: &Sheet,
-    x: u32,
-    p: u32,
-    c: Cand,
-    q: u32,
-) -> bool
+fn is_step13(task: &Task, tables: &Tables, sheet: &Sheet, x: u32, p: u32, c: Cand, q: u32) -> bool
     requires tables { FitsTask task.now tables.now }
     requires formed { IsFormed task.now sheet.now }
     ensures { MatchBool result (IsStep13 task.now tables.now sheet.now x p c q) (IsStep13 task.now tables.now sheet.now x p c q → ⊥) }
@@ -585,7 +563,5 @@ pub fn legal(task: &Task, tables: &Tables, sheet: &Sheet, step: &Step) -> bool
     ensures { IsTrue result ↔ IsLegal task.now tables.now sheet.now step.now }
 {
     let step = *step;
-    !is_dead(sheet)
-        && is_allowed(task, tables, sheet, step)
-        && moves(sheet, change(sheet, step))
+    !is_dead(sheet) && is_allowed(task, tables, sheet, step) && moves(sheet, change(sheet, step))
 }

@@ -11,8 +11,8 @@ returns-then-place-as_slice c =
     let at : IsPlaceFor c.args.needs.now c.args.atom c.place_for-place.result = subst (λ (ns : List Need). IsPlaceFor ns c.args.atom c.place_for-place.result) c.as_slice.ensures c.place_for-place.ensures in
     let lt : c.place_for-place.result < length c.args.needs.now = omega (arith, ap length c.as_slice-2.ensures, c.if-place-as_slice.true) in
     revised_at c.args.atom (λ x. c.args.cands) c.args.needs.now c.place_for-place.result c.get_mut-need.result.now c.args.cands lt at.none_before
-      (sym (get_or_from_slice_get c.args.needs.now c.place_for-place.result c.get_mut-need.result.now c.get_mut-need.result.now c.get_mut-need.ensures.item))
-      (at.here lt) refl
+    (sym (get_or_from_slice_get c.args.needs.now c.place_for-place.result c.get_mut-need.result.now c.get_mut-need.result.now c.get_mut-need.ensures.item))
+    (at.here lt) refl
 
 pub returns-else-place-as_slice : goal.returns-else-place-as_slice
 returns-else-place-as_slice c =

@@ -12,6 +12,6 @@ returns c = none_there c.args.cand c.loop-i.list (λ k h. c.loop-i.invariant.non
 pub returns-then-is_here : goal.returns-then-is_here
 returns-then-is_here c =
     c.remove.ensures.rest ∙
-      (removed_at c.args.cand c.loop-i.list c.loop-i.i (omega (arith, ap length c.loop-i.invariant.kept, ap length c.as_slice-i-end.ensures)) c.loop-i.invariant.none
-        (subst (λ (xs : List Cand). IsSomeAnd (slice_get xs c.loop-i.i) (λ d. true ≡ same d c.args.cand)) c.as_slice.ensures c.if-is_here.ensures)
-        ∙ ap (λ z. without c.args.cand z) c.loop-i.invariant.kept)
+    (removed_at c.args.cand c.loop-i.list c.loop-i.i (omega (arith, ap length c.loop-i.invariant.kept, ap length c.as_slice-i-end.ensures)) c.loop-i.invariant.none
+    (subst (λ (xs : List Cand). IsSomeAnd (slice_get xs c.loop-i.i) (λ d. true ≡ same d c.args.cand)) c.as_slice.ensures c.if-is_here.ensures)
+    ∙ ap (λ z. without c.args.cand z) c.loop-i.invariant.kept)

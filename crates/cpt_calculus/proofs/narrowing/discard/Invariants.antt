@@ -6,4 +6,5 @@ use Rattle.cpt_calculus.proofs.narrowing.discard.Given as goal
 abbrev pub invariant-loop-i : goal.invariant-loop-i
 invariant-loop-i l = record {
   kept : l.list ≡ l.initial.list;
-  none : (k : ℕ) → k < l.i → IsSomeAnd (slice_get l.list k) (λ d. false ≡ same d l.cand) }
+  none : (k : ℕ) → k < l.i → IsSomeAnd (slice_get l.list k) (λ d. false ≡ same d l.cand);
+}

@@ -5,4 +5,5 @@ use Rattle.cpt_calculus.proofs.narrowing.take_from.Given as goal
 abbrev pub invariant-loop-i : goal.invariant-loop-i
 invariant-loop-i l = record {
   same : l.needs ≡ l.initial.needs;
-  none : (k : ℕ) → k < l.i → ((unwrap_or (slice_get l.needs k) no_need).atom == l.atom) ≡ false }
+  none : (k : ℕ) → k < l.i → ((unwrap_or (slice_get l.needs k) no_need).atom == l.atom) ≡ false;
+}

@@ -6,4 +6,4 @@ use Rattle.cpt_calculus.proofs.rules.are_impossible.Goals as goal
 pub loop-d-preserved : goal.loop-d-preserved
 loop-d-preserved c =
     each_more (IsImpossibleBeside c.args.task.now c.args.tables.now c.args.sheet.now c.args.p c.args.q c.args.c) c.args.list.now c.loop-d.d-index c.loop-d-test.true c.loop-d.invariant (Tok 0)
-      c.if-not-is_impossible_beside.ensures
+    c.if-not-is_impossible_beside.ensures
