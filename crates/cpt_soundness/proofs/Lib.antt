@@ -1,0 +1,15 @@
+pub mod PlanLemmas
+pub mod ViewLemmas
+pub mod AdmitLemmas
+pub mod ActingLemmas
+pub mod RuleLemmas
+pub mod NarrowLemmas
+pub mod DeadLemmas
+pub mod AdderLemmas
+pub mod RootLemmas
+pub mod BringLemmas
+pub mod CoverLemmas
+pub mod TreeLemmas
+pub mod FormedLemmas
+pub mod RootFormedLemmas
+pub mod FitLemmas

@@ -1,0 +1,7 @@
+pub mod Acting
+pub mod Safety
+pub mod Laws
+pub mod Sets
+pub mod Children
+pub mod Tree
+pub mod Forming
