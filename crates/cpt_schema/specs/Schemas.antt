@@ -1,7 +1,7 @@
-use Rattle.std.specs.Prelude.{ℕ, ◌==◌, Bool, true, false, if◌then◌else◌, is_some, map, List, [], ◌∷◌, Option, None, Some, Result, Ok, Err, codes}
+use Rattle.std.specs.Prelude.{ℕ, Bool, true, false, if◌then◌else◌, is_some, map, List, [], Option, None, Some, Result, Ok, Err, codes}
 use Rattle.std.specs.Str.{bytes_eq}
 use Rattle.cpt_pddl.specs.declared.fault.Fault.{Fault}
-use Rattle.cpt_pddl.specs.declared.fault.Fault.TheVariants.{Shape, Twice}
+use Rattle.cpt_pddl.specs.declared.fault.Fault.TheVariants.{Twice}
 use Rattle.cpt_pddl.specs.declared.typed.Sort.TheVariants.{Variables}
 use Rattle.cpt_pddl.specs.declared.typed.Typed.{Typed}
 use Rattle.cpt_pddl.specs.Faults.{◌>>=◌}

@@ -1,5 +1,5 @@
-use Rattle.std.proofs.Common.{◌≡◌, ◌∙◌, sym, ap, length}
-use Rattle.cpt_pddl.specs.Items.{items_of, left, said_by}
+use Rattle.std.proofs.Common.{◌∙◌, ap, length}
+use Rattle.cpt_pddl.specs.Items.{items_of, left}
 use Rattle.cpt_pddl.proofs.CursorLemmas.{stands_read}
 use Rattle.cpt_pddl.proofs.cursor.Cursor.new.Goals as goal
 

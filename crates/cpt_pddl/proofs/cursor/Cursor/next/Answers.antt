@@ -1,5 +1,4 @@
-use Rattle.std.proofs.Common.{◌≡◌, ◌∙◌, sym, ap, refl, min, max, ◌-◌, ◌+◌, Some, None, arith}
-use Rattle.cpt_sexp.specs.declared.item.Item.TheVariants.{Word, Group}
+use Rattle.std.proofs.Common.{◌∙◌, sym, ap, refl, Some, None}
 use Rattle.cpt_pddl.proofs.CursorLemmas.{left_past, left_item, left_word, left_group}
 use Rattle.cpt_pddl.proofs.cursor.Cursor.next.Goals as goal
 
