@@ -1,2 +1,13 @@
+mod DomainSoundness
+mod ConditionSoundness
+mod EffectSoundness
 mod ErrorLemmas
+mod KindSoundness
 mod PairLemmas
+mod SchemaSoundness
+mod SignatureSoundness
+mod TermSoundness
+mod Tools
+mod TypedSoundness
+mod NameSoundness
+mod DomainNames

@@ -6,7 +6,6 @@ use Rattle.cpt_pddl.specs.declared.fault.Feature.TheVariants as features
 use Rattle.cpt_pddl.specs.declared.fault.Fault.{Fault}
 use Rattle.cpt_pddl.specs.declared.fault.Fault.TheVariants.{Shape, Twice, Feature}
 use Rattle.cpt_pddl.specs.declared.typed.Sort.TheVariants.{Objects}
-use Rattle.cpt_pddl.specs.declared.typed.Typed.{Typed}
 use Rattle.cpt_pddl.specs.Faults.{◌>>=◌}
 use Rattle.cpt_pddl.specs.Items.{Items, end, word, group, said_by}
 use Rattle.cpt_pddl.specs.Reading.{after_word, group_at, name_at, nothing}

@@ -1,11 +1,12 @@
 //! Reads a domain.
 
-ghost use Rattle.std.specs.Prelude.{◌≡◌, Ok};
+ghost use Rattle.std.specs.Prelude.{◌≡◌, Ok, IfOk};
 ghost use Rattle.std.specs.List.{zip};
 ghost use Rattle.cpt_pddl.specs.Faults.{Gives};
 ghost use Rattle.cpt_pddl.specs.Items.{left, said_by};
 ghost use Rattle.cpt_domain.specs.Errors.{Answers, domain_error, of_domain};
 ghost use Rattle.cpt_domain.specs.Parts.{part_of};
+ghost use Rattle.cpt_domain.specs.Sound.{IsSound};
 ghost use Rattle.cpt_domain.specs.Reading.{assembled, definition, domain_in, domain_of, function_list, name_in, nothing_declared, nothing_read, object_decls, part_by, part_in, parts_in, predicate_list, section_in, type_decls, with_action, with_declared};
 
 use crate::domain::{Domain, Function, ObjectDecl, Predicate, TypeDecl};
@@ -332,6 +333,8 @@ fn domain_error(fault: Fault) -> DomainError
 pub fn read_domain(alloc: Global, forest: &Forest) -> Result<Domain, DomainError>
     // The text says so, or has this fault.
     ensures exact { Answers result (domain_of forest.now) }
+    // What is read is sound: each number is in range, names of one kind are different, and no limit is passed.
+    ensures sound { IfOk result IsSound }
 {
     match domain_in(alloc, Cursor::new(forest)) {
         Ok(domain) => Ok(domain),

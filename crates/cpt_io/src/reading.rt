@@ -1,6 +1,6 @@
 //! Whole files.
 
-ghost use Rattle.std.specs.Prelude.{◌≡◌, ◌-◌, ◌^◌, ◌<◌, ◌≢◌, IsTrue, IsErrOf};
+ghost use Rattle.std.specs.Prelude.{◌≡◌, ◌-◌, ◌^◌, ◌<◌, ◌≢◌, IsTrue, IsErrOf, OnOk, IsSome, Some, []};
 ghost use Rattle.cpt_io.specs.Meaning.{Lacks};
 ghost use Rattle.cpt_io.specs.Reading.{Reads};
 
@@ -21,6 +21,7 @@ pub fn read_all<L: Library>(
     requires { L.faults lib.old < 2 ^ 64 - 1 }
     ensures same { L.holds lib.new ≡ L.holds lib.old }
     ensures bytes { Reads (λ v. v.items) (L.holds lib.old) name.now most result }
+    ensures end { OnOk result (IsSome (L.holds lib.old) → L.left lib.new ≡ Some []) }
     ensures failed { IsErrOf result ReadError.Failed → L.faults lib.old < L.faults lib.new }
     ensures kept { result ≢ Err ReadError.Failed → L.faults lib.new ≡ L.faults lib.old }
     ensures steady { IsTrue (L.steady lib.old) → IsTrue (L.steady lib.new) }

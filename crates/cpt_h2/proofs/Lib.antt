@@ -1,0 +1,6 @@
+pub mod MovingLemmas
+pub mod BoardLemmas
+pub mod LimitLemmas
+pub mod RuleLemmas
+pub mod RoundLemmas
+pub mod TableLemmas

@@ -1,0 +1,4 @@
+pub mod Board
+pub mod Moving
+pub mod Rules
+pub mod Rounds

@@ -1,0 +1,12 @@
+//! The greatest table of pairs: how early two atoms can hold together.
+#![tactic(auto)]
+
+mod board;
+mod limits;
+mod marks;
+mod rules;
+mod table;
+#[cfg(test)]
+mod tests;
+
+pub use table::pair_table;

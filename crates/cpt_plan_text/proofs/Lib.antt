@@ -1,0 +1,12 @@
+pub mod EntryParts
+pub mod EntryRead
+pub mod FaultOrder
+pub mod Finding
+pub mod LetterCase
+pub mod LineBack
+pub mod LineLemmas
+pub mod OneText
+pub mod Passes
+pub mod PlanBack
+pub mod PrintOrder
+pub mod Sound

@@ -1,0 +1,11 @@
+pub mod KeptLemmas
+pub mod KeptPlans
+pub mod ListLemmas
+pub mod MarkLemmas
+pub mod Numbering
+pub mod OneAnswer
+pub mod Reaching
+pub mod Renaming
+pub mod TaskLemmas
+pub mod Timelines
+pub mod UserLemmas

@@ -1,0 +1,5 @@
+pub mod Kept
+pub mod Marking
+pub mod Plans
+pub mod Pruning
+pub mod Reached

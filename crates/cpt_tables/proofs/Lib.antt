@@ -1,0 +1,15 @@
+pub mod SetLemmas
+pub mod SpanLemmas
+pub mod TaskLemmas
+pub mod AtomScans
+pub mod DistBounds
+pub mod GrowLemmas
+pub mod LessenLemmas
+pub mod LimitLemmas
+pub mod ListLemmas
+pub mod MostLemmas
+pub mod PairBounds
+pub mod PairScans
+pub mod PlaceLemmas
+pub mod PlanFacts
+pub mod ScanLemmas

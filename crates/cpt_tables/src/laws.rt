@@ -1,0 +1,14 @@
+//! Laws of tables: their contracts are what they say, and their bodies are empty.
+
+ghost use Rattle.cpt_tables.specs.Bounds.{AdmissiblePairsBound, AdmissibleDistsBound};
+
+/// Over an admissible pair table each moment of each valid plan at which two atoms hold is at least their value.
+pub fn pairs_bound()
+    ensures { AdmissiblePairsBound }
+{}
+
+/// Over tables that are admissible each moment of each valid plan at which an atom holds, and which is not before an end
+/// of an action, is at least the distance of the action to the atom after that end.
+pub fn dists_bound()
+    ensures { AdmissibleDistsBound }
+{}

@@ -1,0 +1,17 @@
+pub mod Acting
+pub mod Binding
+pub mod Completing
+pub mod Faulting
+pub mod Feeding
+pub mod FirstFault
+pub mod Heading
+pub mod Limiting
+pub mod Listing
+pub mod Naming
+pub mod Numerals
+pub mod OneFault
+pub mod Parts
+pub mod Sets
+pub mod Steps
+pub mod Stopping
+pub mod Whole

@@ -1,0 +1,17 @@
+//! Tests of the program's one call over files and an output in memory.
+#![tactic(auto)]
+
+#[cfg(test)]
+mod calls;
+#[cfg(test)]
+mod counting;
+#[cfg(test)]
+mod parts;
+#[cfg(test)]
+mod plans;
+#[cfg(test)]
+mod scene;
+#[cfg(test)]
+mod tasks;
+#[cfg(test)]
+mod words;

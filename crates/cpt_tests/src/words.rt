@@ -1,0 +1,29 @@
+//! Words that ask for no command.
+
+use crate::scene::{Case, expect};
+use std::test::Fail;
+
+#[test]
+fn words_that_ask_for_no_command_are_usage(rt: HostRuntime) -> Result<(), Fail> {
+    let lists: [&[&str]; 9] = [
+        &[],
+        &["validate-task"],
+        &["validate-task", "t"],
+        &["validate-task", "t", "p", "q"],
+        &["validate-task", "", "p"],
+        &["validate-task", "t", "-p"],
+        &["Validate-task", "t", "p"],
+        &["plan", "t", "p"],
+        &["--help"],
+    ];
+    for words in lists {
+        let case = Case {
+            words,
+            files: &[("t", "task 0 0\ninit\ngoal\n"), ("p", "")],
+            status: 5,
+            text: "fault: usage\n",
+        };
+        expect(&rt, rt.alloc(), &case, 1)?;
+    }
+    Ok(())
+}

@@ -1,0 +1,4 @@
+pub mod Endings
+pub mod JudgingFiles
+pub mod Once
+pub mod RunLemmas

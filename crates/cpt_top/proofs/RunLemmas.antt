@@ -1,0 +1,345 @@
+use Rattle.std.proofs.Common.{◌≡◌, ◌≢◌, ◌↔◌, ℕ, ◌<◌, ◌≤◌, ◌⊎◌, inl, inr, Bool, IsTrue, List, Option, None, Some, Result, Ok, Err, IfOk, IfSome, refl, sym, ap, ◌∙◌, subst, arith}
+use Rattle.std.specs.Io.KnownBytes.{append_known}
+use Rattle.cpt_io.specs.Meaning.{Files, AppendsFront}
+use Rattle.cpt_top.specs.declared.ending.Ending.{Ending}
+use Rattle.cpt_top.specs.declared.ending.Ending.TheVariants.{Usage, Passed, TaskLine, PlanLine, PlanUnknown, MustLast, IsUnreachable, Read, Memory}
+use Rattle.cpt_top.specs.declared.verdicts.Reply.{Reply}
+use Rattle.cpt_top.specs.Ending.{Answer, answer_of, ending_answer, ending_line}
+use Rattle.cpt_top.specs.Files.{Gives}
+use Rattle.cpt_top.specs.Commands.{AsksValidation, ComesTo, IsUsage, Answers, MayWrite, HoldValidPlan}
+use Rattle.cpt_top.specs.Lines.{read_line, memory_line, valid_line}
+use Rattle.cpt_top.specs.Printing.{Output, Writes, WritesWhole, WritesFront, WritesAnswer, memory_answer, ended_answer, told}
+use Rattle.cpt_top.specs.Verdicts.{JudgesFiles, reply_answer}
+use Rattle.cpt_top.proofs.Once.{comes_once, same_task, same_plan, zero_is_valid, valid_is_zero}
+
+-- what is known after a run
+pub record Ran (o : Option Files) (steady : Bool) (words : List (List ℕ)) (r : Result Reply Ending) (before now : ℕ) (old new : Output) (status : ℕ) : Type 0 where
+  pub answer : IfSome o (λ files. Gives steady reply_answer r (ComesTo files words))
+  pub small : IfOk r (λ reply. reply.status ≤ 1)
+  pub usage : (r ≡ Err Usage) ↔ IsUsage words
+  pub failed : r ≡ Err Read → before < now
+  pub kept : r ≢ Err Read → now ≡ before
+  pub writes : WritesAnswer old new (ended_answer r) status
+  pub read : r ≡ Err Read → Writes old new (ended_answer r) status
+  pub asked : r ≡ Err Usage → Writes old new (ended_answer r) status
+
+-- a result with a status below 7
+pub record IsTold (r : Result Reply Ending) : Type 0 where
+  pub not_read : r ≢ Err Read
+  pub not_memory : r ≢ Err Memory
+  pub low : (ended_answer r).status < 7
+
+-- what was written is the answer, that the file could not be read, that memory was refused, or a front of one of these
+pub data Outcome (r : Result Reply Ending) (old new : Output) (status : ℕ) : Type 0 where
+  gave : IsTold r → WritesWhole old new (ended_answer r) status → Outcome r old new status
+  could_not_read : r ≡ Err Read → WritesWhole old new (ending_answer Read) status → Outcome r old new status
+  wanted_memory : r ≢ Err Read → r ≢ Err Usage → WritesWhole old new memory_answer status → Outcome r old new status
+  failed_writing : status ≡ 8 → old.faults < new.faults → AppendsFront old.written new.written (ended_answer r).text ⊎ AppendsFront old.written new.written memory_line → Outcome r old new status
+
+is_told : (r : Result Reply Ending) → IfOk r (λ reply. reply.status ≤ 1) → r ≢ Err Read → r ≢ Err Memory → IsTold r
+is_told (Ok reply) small a b = record { not_read = a; not_memory = b; low = omega (arith, small) }
+is_told (Err (MustLast line dur)) small a b = record { not_read = a; not_memory = b; low = omega arith }
+is_told (Err (IsUnreachable line)) small a b = record { not_read = a; not_memory = b; low = omega arith }
+is_told (Err (TaskLine line)) small a b = record { not_read = a; not_memory = b; low = omega arith }
+is_told (Err (PlanLine line)) small a b = record { not_read = a; not_memory = b; low = omega arith }
+is_told (Err (PlanUnknown line)) small a b = record { not_read = a; not_memory = b; low = omega arith }
+is_told (Err Usage) small a b = record { not_read = a; not_memory = b; low = omega arith }
+is_told (Err (Passed limit)) small a b = record { not_read = a; not_memory = b; low = omega arith }
+is_told (Err Read) small a b = absurd (a refl)
+is_told (Err Memory) small a b = absurd (b refl)
+
+front_of : (r : Result Reply Ending) (old new : Output) (status : ℕ) → WritesFront old new (ended_answer r) status → Outcome r old new status
+front_of r old new status f = failed_writing f.status_is f.faults (inl f.written)
+
+front_of_memory : (r : Result Reply Ending) (old new : Output) (status : ℕ) → WritesFront old new memory_answer status → Outcome r old new status
+front_of_memory r old new status f = failed_writing f.status_is f.faults (inr f.written)
+
+-- where the ending is known, the answer is its
+pub data Known : Result Reply Ending → Type 0 where
+  usage : Known (Err Usage)
+  read : Known (Err Read)
+  memory : Known (Err Memory)
+  other : {r : Result Reply Ending} → r ≢ Err Usage → r ≢ Err Read → r ≢ Err Memory → Known r
+
+known_of : (r : Result Reply Ending) → Known r
+known_of (Ok reply) = other (λ e. cc) (λ e. cc) (λ e. cc)
+known_of (Err (MustLast line dur)) = other (λ e. cc) (λ e. cc) (λ e. cc)
+known_of (Err (IsUnreachable line)) = other (λ e. cc) (λ e. cc) (λ e. cc)
+known_of (Err (TaskLine line)) = other (λ e. cc) (λ e. cc) (λ e. cc)
+known_of (Err (PlanLine line)) = other (λ e. cc) (λ e. cc) (λ e. cc)
+known_of (Err (PlanUnknown line)) = other (λ e. cc) (λ e. cc) (λ e. cc)
+known_of (Err Usage) = usage
+known_of (Err (Passed limit)) = other (λ e. cc) (λ e. cc) (λ e. cc)
+known_of (Err Read) = read
+known_of (Err Memory) = memory
+
+outcome_by : (o : Option Files) (steady : Bool) (words : List (List ℕ)) (r : Result Reply Ending) (before now : ℕ) (old new : Output) (status : ℕ) → Known r → Ran o steady words r before now old new status → Outcome r old new status
+outcome_by o steady words r before now old new status (other a b c) ran =
+    elim ran.writes [
+      | inl w ↦ elim w [ inl whole ↦ gave (is_told r ran.small b c) whole | inr front ↦ front_of r old new status front ]
+      | inr w ↦ elim w [ inl whole ↦ wanted_memory b a whole | inr front ↦ front_of_memory r old new status front ]
+    ]
+outcome_by o steady words (Err Usage) before now old new status usage ran =
+    elim (ran.asked refl) [
+      | inl whole ↦ gave (is_told (Err Usage) ran.small (λ e. cc) (λ e. cc)) whole
+      | inr front ↦ front_of (Err Usage) old new status front
+    ]
+outcome_by o steady words (Err Read) before now old new status read ran =
+    elim (ran.read refl) [ inl whole ↦ could_not_read refl whole | inr front ↦ front_of (Err Read) old new status front ]
+outcome_by o steady words (Err Memory) before now old new status memory ran =
+    elim ran.writes [
+      | inl w ↦ elim w [ inl whole ↦ wanted_memory (λ e. cc) (λ e. cc) whole | inr front ↦ front_of (Err Memory) old new status front ]
+      | inr w ↦ elim w [ inl whole ↦ wanted_memory (λ e. cc) (λ e. cc) whole | inr front ↦ front_of_memory (Err Memory) old new status front ]
+    ]
+
+pub outcome : (o : Option Files) (steady : Bool) (words : List (List ℕ)) (r : Result Reply Ending) (before now : ℕ) (old new : Output) (status : ℕ) → Ran o steady words r before now old new status → Outcome r old new status
+outcome o steady words r before now old new status ran = outcome_by o steady words r before now old new status (known_of r) ran
+
+-- a run: its values, and what is known of them
+pub record Run : Type 0 where
+  pub files : Option Files
+  pub steady : Bool
+  pub words : List (List ℕ)
+  pub r : Result Reply Ending
+  pub before : ℕ
+  pub now : ℕ
+  pub old : Output
+  pub new : Output
+  pub status : ℕ
+  pub ran : Ran files steady words r before now old new status
+
+out_of : (x : Run) → Outcome x.r x.old x.new x.status
+out_of x = outcome x.files x.steady x.words x.r x.before x.now x.old x.new x.status x.ran
+
+pub known : (x : Run) → x.status ≤ 9
+known x = elim (out_of x) [
+  | gave h w ↦ omega (arith, w.status_is, h.low)
+  | could_not_read e w ↦ omega (arith, w.status_is)
+  | wanted_memory a b w ↦ omega (arith, w.status_is)
+  | failed_writing is rose front ↦ omega (arith, is)
+]
+
+read_or_not : (r : Result Reply Ending) → (r ≡ Err Read) ⊎ (r ≢ Err Read)
+read_or_not r = by_known r (known_of r)
+  where
+    by_known : (r : Result Reply Ending) → Known r → (r ≡ Err Read) ⊎ (r ≢ Err Read)
+    by_known (Err Usage) usage = inr (λ e. cc)
+    by_known (Err Read) read = inl refl
+    by_known (Err Memory) memory = inr (λ e. cc)
+    by_known r (other a b c) = inr b
+
+pub never_falls : (x : Run) → x.before ≤ x.now
+never_falls x = elim (read_or_not x.r) [ inl e ↦ omega (arith, x.ran.failed e) | inr ne ↦ omega (arith, x.ran.kept ne) ]
+
+pub output_never_falls : (x : Run) → x.old.faults ≤ x.new.faults
+output_never_falls x = elim (out_of x) [
+  | gave h w ↦ omega (arith, w.faults)
+  | could_not_read e w ↦ omega (arith, w.faults)
+  | wanted_memory a b w ↦ omega (arith, w.faults)
+  | failed_writing is rose front ↦ omega (arith, rose)
+]
+
+read_only : (x : Run) → x.status ≡ 7 → (x.before < x.now) × (x.new.faults ≡ x.old.faults)
+read_only x seven = elim (out_of x) [
+  | gave h w ↦ absurd (omega (arith, w.status_is, h.low, seven))
+  | could_not_read e w ↦ (x.ran.failed e, w.faults)
+  | wanted_memory a b w ↦ absurd (omega (arith, w.status_is, seven))
+  | failed_writing is rose front ↦ absurd (omega (arith, is, seven))
+]
+
+read_comes : (x : Run) → (x.before < x.now) × (x.new.faults ≡ x.old.faults) → x.status ≡ 7
+read_comes x h = elim (out_of x) [
+  | gave told w ↦ absurd (omega (arith, x.ran.kept told.not_read, h.0))
+  | could_not_read e w ↦ w.status_is
+  | wanted_memory not_read b w ↦ absurd (omega (arith, x.ran.kept not_read, h.0))
+  | failed_writing is rose front ↦ absurd (omega (arith, rose, h.1))
+]
+
+pub read_exactly : (x : Run) → (x.status ≡ 7) ↔ ((x.before < x.now) × (x.new.faults ≡ x.old.faults))
+read_exactly x = (read_only x, read_comes x)
+
+pub read_text : (x : Run) → x.status ≡ 7 → x.new.written ≡ append_known x.old.written read_line
+read_text x seven = elim (out_of x) [
+  | gave h w ↦ absurd (omega (arith, w.status_is, h.low, seven))
+  | could_not_read e w ↦ w.written
+  | wanted_memory a b w ↦ absurd (omega (arith, w.status_is, seven))
+  | failed_writing is rose front ↦ absurd (omega (arith, is, seven))
+]
+
+pub memory_text : (x : Run) → x.status ≡ 9 → x.new.written ≡ append_known x.old.written memory_line
+memory_text x nine = elim (out_of x) [
+  | gave h w ↦ absurd (omega (arith, w.status_is, h.low, nine))
+  | could_not_read e w ↦ absurd (omega (arith, w.status_is, nine))
+  | wanted_memory a b w ↦ w.written
+  | failed_writing is rose front ↦ absurd (omega (arith, is, nine))
+]
+
+write_only : (x : Run) → x.status ≡ 8 → x.old.faults < x.new.faults
+write_only x eight = elim (out_of x) [
+  | gave h w ↦ absurd (omega (arith, w.status_is, h.low, eight))
+  | could_not_read e w ↦ absurd (omega (arith, w.status_is, eight))
+  | wanted_memory a b w ↦ absurd (omega (arith, w.status_is, eight))
+  | failed_writing is rose front ↦ rose
+]
+
+write_comes : (x : Run) → x.old.faults < x.new.faults → x.status ≡ 8
+write_comes x up = elim (out_of x) [
+  | gave h w ↦ absurd (omega (arith, w.faults, up))
+  | could_not_read e w ↦ absurd (omega (arith, w.faults, up))
+  | wanted_memory a b w ↦ absurd (omega (arith, w.faults, up))
+  | failed_writing is rose front ↦ is
+]
+
+pub write_exactly : (x : Run) → (x.status ≡ 8) ↔ (x.old.faults < x.new.faults)
+write_exactly x = (write_only x, write_comes x)
+
+if_some_weaker : {X : Type 0} (o : Option X) (P Q : X → Type 0) → ((x : X) → P x → Q x) → IfSome o P → IfSome o Q
+if_some_weaker None P Q f h = h
+if_some_weaker (Some x) P Q f h = f x h
+
+status_five : (r : Result Reply Ending) → IfOk r (λ reply. reply.status ≤ 1) → (ended_answer r).status ≡ 5 → r ≡ Err Usage
+status_five (Ok reply) small five = absurd (omega (arith, small, five))
+status_five (Err (MustLast line dur)) small five = absurd (omega (arith, five))
+status_five (Err (IsUnreachable line)) small five = absurd (omega (arith, five))
+status_five (Err (TaskLine line)) small five = absurd (omega (arith, five))
+status_five (Err (PlanLine line)) small five = absurd (omega (arith, five))
+status_five (Err (PlanUnknown line)) small five = absurd (omega (arith, five))
+status_five (Err Usage) small five = refl
+status_five (Err (Passed limit)) small five = absurd (omega (arith, five))
+status_five (Err Read) small five = absurd (omega (arith, five))
+status_five (Err Memory) small five = absurd (omega (arith, five))
+
+pub usage_only : (x : Run) → x.status ≡ 5 → IsUsage x.words
+usage_only x five = elim (out_of x) [
+  | gave h w ↦ x.ran.usage.0 (status_five x.r x.ran.small (sym w.status_is ∙ five))
+  | could_not_read e w ↦ absurd (omega (arith, w.status_is, five))
+  | wanted_memory a b w ↦ absurd (omega (arith, w.status_is, five))
+  | failed_writing is rose front ↦ absurd (omega (arith, is, five))
+]
+
+pub usage_comes : (x : Run) → IsUsage x.words → (x.status ≡ 5) ⊎ (x.status ≡ 8)
+usage_comes x u =
+    let e : x.r ≡ Err Usage = x.ran.usage.1 u in
+    elim (x.ran.asked e) [ inl w ↦ inl (w.status_is ∙ ap (λ r. (ended_answer r).status) e) | inr f ↦ inr f.status_is ]
+
+gives_told : (steady : Bool) (r : Result Reply Ending) (P : Result Answer Ending → Type 0) → r ≢ Err Read → r ≢ Err Memory → Gives steady reply_answer r P → P (told r)
+gives_told steady (Ok reply) P a b g = g
+gives_told steady (Err (MustLast line dur)) P a b g = g
+gives_told steady (Err (IsUnreachable line)) P a b g = g
+gives_told steady (Err (TaskLine line)) P a b g = g
+gives_told steady (Err (PlanLine line)) P a b g = g
+gives_told steady (Err (PlanUnknown line)) P a b g = g
+gives_told steady (Err Usage) P a b g = g
+gives_told steady (Err (Passed limit)) P a b g = g
+gives_told steady (Err Read) P a b g = absurd (a refl)
+gives_told steady (Err Memory) P a b g = absurd (b refl)
+
+gives_read : (steady : Bool) (r : Result Reply Ending) (P : Result Answer Ending → Type 0) → r ≡ Err Read → IsTrue steady → Gives steady reply_answer r P → P (Err Read)
+gives_read steady r P e always g = subst (λ (x : Result Reply Ending). Gives steady reply_answer x P) e g always
+
+-- the status and the text are those of the answer
+abbrev pub Only : Run → Files → Type 0
+Only x files = x.status < 7 → (text : List ℕ) × Answers files x.words (record { status = x.status; text = text }) × (x.new.written ≡ append_known x.old.written text)
+
+pub only : (x : Run) → IfSome x.files (Only x)
+only x = if_some_weaker x.files (λ files. Gives x.steady reply_answer x.r (ComesTo files x.words)) (Only x) (only_in x) x.ran.answer
+  where
+    only_in : (x : Run) (files : Files) → Gives x.steady reply_answer x.r (ComesTo files x.words) → Only x files
+    only_in x files given low = elim (out_of x) [
+      | gave h w ↦ ((ended_answer x.r).text, (told x.r, gives_told x.steady x.r (ComesTo files x.words) h.not_read h.not_memory given, ap (λ (s : ℕ). let a : Answer = record { status = s; text = (ended_answer x.r).text } in a) w.status_is), w.written)
+      | could_not_read e w ↦ absurd (omega (arith, w.status_is, low))
+      | wanted_memory a b w ↦ absurd (omega (arith, w.status_is, low))
+      | failed_writing is rose front ↦ absurd (omega (arith, is, low))
+    ]
+
+-- where a reading failed over a steady library, a file that the words reach is not held
+abbrev pub Lacking : Run → Files → Type 0
+Lacking x files = IsTrue x.steady → x.before < x.now → Answers files x.words (ending_answer Read)
+
+pub lacking : (x : Run) → IfSome x.files (Lacking x)
+lacking x = if_some_weaker x.files (λ files. Gives x.steady reply_answer x.r (ComesTo files x.words)) (Lacking x) (lacking_in x) x.ran.answer
+  where
+    lacking_in : (x : Run) (files : Files) → Gives x.steady reply_answer x.r (ComesTo files x.words) → Lacking x files
+    lacking_in x files given always rose = elim (read_or_not x.r) [
+      | inl e ↦ (Err Read, gives_read x.steady x.r (ComesTo files x.words) e always given, refl)
+      | inr ne ↦ absurd (omega (arith, x.ran.kept ne, rose))
+    ]
+
+-- the answer is given, unless a file cannot be read, a write fails or memory is refused
+abbrev pub Complete : Run → Files → Type 0
+Complete x files = (answer : Answer) → Answers files x.words answer → answer.status ≢ 7 → x.new.faults ≡ x.old.faults → (x.now ≡ x.before) ⊎ IsTrue x.steady
+    → (x.status ≡ 9) ⊎ ((x.status ≡ answer.status) × (x.new.written ≡ append_known x.old.written answer.text))
+
+pub complete : (x : Run) → IfSome x.files (Complete x)
+complete x = if_some_weaker x.files (λ files. Gives x.steady reply_answer x.r (ComesTo files x.words)) (Complete x) (complete_in x) x.ran.answer
+  where
+    complete_in : (x : Run) (files : Files) → Gives x.steady reply_answer x.r (ComesTo files x.words) → Complete x files
+    complete_in x files given answer asked not_seven same quiet = elim (out_of x) [
+      | gave h w ↦ let e : told x.r ≡ asked.0 = comes_once files x.words (told x.r) asked.0 (gives_told x.steady x.r (ComesTo files x.words) h.not_read h.not_memory given) asked.1 in
+          let f : ended_answer x.r ≡ answer = ap answer_of e ∙ sym asked.2 in
+          inr (w.status_is ∙ ap (λ (a : Answer). a.status) f, w.written ∙ ap (λ (a : Answer). append_known x.old.written a.text) f)
+      | could_not_read e w ↦ elim quiet [
+        | inl kept ↦ absurd (omega (arith, kept, x.ran.failed e))
+        | inr always ↦ let f : Err Read ≡ asked.0 = comes_once files x.words (Err Read) asked.0 (gives_read x.steady x.r (ComesTo files x.words) e always given) asked.1 in
+            absurd (not_seven (ap (λ (a : Answer). a.status) asked.2 ∙ sym (ap (λ (r : Result Answer Ending). (answer_of r).status) f)))
+      ]
+      | wanted_memory a b w ↦ inl w.status_is
+      | failed_writing is rose front ↦ absurd (omega (arith, rose, same))
+    ]
+
+may_write : (steady : Bool) (r : Result Reply Ending) (words : List (List ℕ)) (files : Files) → Gives steady reply_answer r (ComesTo files words) → Known r → MayWrite files words (ended_answer r).text
+may_write steady (Err Usage) words files given usage = inl (ending_answer Usage, (Err Usage, given, refl), refl)
+may_write steady (Err Read) words files given read = inr (inl refl)
+may_write steady (Err Memory) words files given memory = inr (inr refl)
+may_write steady r words files given (other a b c) = inl (ended_answer r, (told r, gives_told steady r (ComesTo files words) b c given, refl), refl)
+
+-- at a failed write a front of a text was written that the words may write
+abbrev pub Front : Run → Files → Type 0
+Front x files = x.status ≡ 8 → (text : List ℕ) × MayWrite files x.words text × AppendsFront x.old.written x.new.written text
+
+pub front : (x : Run) → IfSome x.files (Front x)
+front x = if_some_weaker x.files (λ files. Gives x.steady reply_answer x.r (ComesTo files x.words)) (Front x) (front_in x) x.ran.answer
+  where
+    front_in : (x : Run) (files : Files) → Gives x.steady reply_answer x.r (ComesTo files x.words) → Front x files
+    front_in x files given eight = elim (out_of x) [
+      | gave h w ↦ absurd (omega (arith, w.status_is, h.low, eight))
+      | could_not_read e w ↦ absurd (omega (arith, w.status_is, eight))
+      | wanted_memory a b w ↦ absurd (omega (arith, w.status_is, eight))
+      | failed_writing is rose put ↦ elim put [
+        | inl f ↦ ((ended_answer x.r).text, may_write x.steady x.r x.words files given (known_of x.r), f)
+        | inr f ↦ (memory_line, inr (inr refl), f)
+      ]
+    ]
+
+-- a plan that is judged valid is valid, and its line was written
+abbrev pub Validated : Run → Files → Type 0
+Validated x files = (task_name plan_name : List ℕ) → AsksValidation x.words task_name plan_name → x.status ≡ 0
+    → (m : ℕ) × HoldValidPlan files task_name plan_name m × (x.new.written ≡ append_known x.old.written (valid_line m))
+
+asked_files : (words : List (List ℕ)) (files : Files) (t p : List ℕ) (r : Result Answer Ending) → AsksValidation words t p → ComesTo files words r → JudgesFiles files t p r
+asked_files words files t p r asked comes = elim comes [
+  | inl h ↦ subst (λ q. JudgesFiles files t q r) (same_plan words t p h.0 h.1 asked h.2) (subst (λ u. JudgesFiles files u h.1 r) (same_task words t p h.0 h.1 asked h.2) h.3)
+  | inr h ↦ absurd (h.0 t p asked)
+]
+
+pub validated : (x : Run) → IfSome x.files (Validated x)
+validated x = if_some_weaker x.files (Only x) (Validated x) (validated_in x) (only x)
+  where
+    validated_in : (x : Run) (files : Files) → Only x files → Validated x files
+    validated_in x files told_only t p asked zero =
+        let told_text = told_only (omega (arith, zero)) in
+        let answers : Answers files x.words (record { status = x.status; text = told_text.0 }) = told_text.1 in
+        let valid = zero_is_valid files t p answers.0 (asked_files x.words files t p answers.0 asked answers.1) (sym (ap (λ (a : Answer). a.status) answers.2) ∙ zero) in
+        (valid.0, valid.1, told_text.2 ∙ ap (append_known x.old.written) (ap (λ (a : Answer). a.text) answers.2 ∙ valid.2))
+
+-- a valid plan is judged valid, unless a file cannot be read, a write fails or memory is refused
+abbrev pub Validates : Run → Files → Type 0
+Validates x files = (task_name plan_name : List ℕ) (m : ℕ) → AsksValidation x.words task_name plan_name → HoldValidPlan files task_name plan_name m → x.new.faults ≡ x.old.faults → (x.now ≡ x.before) ⊎ IsTrue x.steady
+    → (x.status ≡ 9) ⊎ ((x.status ≡ 0) × (x.new.written ≡ append_known x.old.written (valid_line m)))
+
+pub validates : (x : Run) → IfSome x.files (Validates x)
+validates x = if_some_weaker x.files (Complete x) (Validates x) (validates_in x) (complete x)
+  where
+    validates_in : (x : Run) (files : Files) → Complete x files → Validates x files
+    validates_in x files whole t p m asked holds same quiet =
+        whole (record { status = 0; text = valid_line m }) (Ok (record { status = 0; text = valid_line m }), inl (t, p, asked, valid_is_zero files t p m holds), refl) (λ e. cc) same quiet

@@ -1,0 +1,7 @@
+use Rattle.cpt_top.proofs.JudgingFiles.{judged}
+use Rattle.cpt_top.proofs.validating.judge_files.Goals as goal
+
+pub returns-clause-answer : goal.returns-clause-answer
+returns-clause-answer g c =
+    judged (g.L.Library.holds c.args.lib.now) (g.L.Library.holds c.task_in.new.lib) (g.L.Library.steady c.args.lib.now) c.args.task_name.now c.args.plan_name.now c.in-Ok.task c.in-Ok-plan_in.plan c.judge_plan.result c.in-Ok.ensures.same c.in-Ok.ensures.answer c.in-Ok-plan_in.ensures.answer
+    (c.judge_plan.ensures.answer (g.L.Library.steady c.args.lib.now))

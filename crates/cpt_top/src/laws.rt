@@ -1,0 +1,8 @@
+//! A law of answers: its contract is what it says, and its body is empty.
+
+ghost use Rattle.cpt_top.specs.Commands.{OneAnswer};
+
+/// Words over files have at most one answer.
+pub fn one_answer()
+    ensures { OneAnswer }
+{}

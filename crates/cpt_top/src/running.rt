@@ -1,0 +1,96 @@
+//! The program's one call.
+
+ghost use Rattle.std.specs.Prelude.{◌≡◌, ◌≢◌, ◌↔◌, ◌⊎◌, ◌-◌, ◌^◌, ◌<◌, ◌≤◌, List, ℕ, map, IfOk, IfSome, IsTrue, string_bytes};
+ghost use Rattle.std.specs.Io.KnownBytes.{append_known};
+ghost use Rattle.cpt_io.specs.Meaning.{AppendsFront};
+ghost use Rattle.cpt_top.specs.Commands.{Answers, AsksValidation, ComesTo, HoldValidPlan, IsUsage, MayWrite};
+ghost use Rattle.cpt_top.specs.Ending.{Answer};
+ghost use Rattle.cpt_top.specs.Files.{Gives};
+ghost use Rattle.cpt_top.specs.Lines.{memory_line, read_line, valid_line};
+ghost use Rattle.cpt_top.specs.Printing.{ended_answer, output, Writes, WritesAnswer};
+ghost use Rattle.cpt_top.specs.Verdicts.{reply_answer};
+
+use crate::ending::Ending;
+use crate::printing::{put_ending, put_reply};
+use crate::validating::judge_files;
+use crate::verdicts::Reply;
+use crate::words::validation;
+use cpt_io::{Library, Sink};
+use std::alloc::Global;
+
+/// The result that the words ask for, or how they end.
+fn reply_in<L: Library>(alloc: Global, words: &[String], lib: &mut L) -> Result<Reply, Ending>
+    requires { L.faults lib.old < 2 ^ 64 - 1 }
+    ensures answer { IfSome (L.holds lib.old) (λ files. Gives (L.steady lib.old) reply_answer result (ComesTo files (map string_bytes words.now))) }
+    ensures status { IfOk result (λ reply. reply.status ≤ 1) }
+    ensures usage { (result ≡ Err Ending.Usage) ↔ IsUsage (map string_bytes words.now) }
+    ensures failed { result ≡ Err Ending.Read → L.faults lib.old < L.faults lib.new }
+    ensures kept { result ≢ Err Ending.Read → L.faults lib.new ≡ L.faults lib.old }
+{
+    match validation(words) {
+        Some((task_name, plan_name)) => judge_files(alloc, task_name, plan_name, lib),
+        None => Err(Ending::Usage),
+    }
+}
+
+/// Writes the result or the ending, and answers its status.
+fn put<K: Sink>(alloc: Global, out: &mut K, answer: Result<Reply, Ending>) -> u8
+    requires { K.faults out.old < 2 ^ 64 - 1 }
+    ensures writes { WritesAnswer (output (K.faults out.old) (K.written out.old)) (output (K.faults out.new) (K.written out.new)) (ended_answer answer) result }
+    ensures read { answer ≡ Err Ending.Read → Writes (output (K.faults out.old) (K.written out.old)) (output (K.faults out.new) (K.written out.new)) (ended_answer answer) result }
+    ensures usage { answer ≡ Err Ending.Usage → Writes (output (K.faults out.old) (K.written out.old)) (output (K.faults out.new) (K.written out.new)) (ended_answer answer) result }
+{
+    match answer {
+        Ok(reply) => put_reply(out, &reply),
+        Err(ending) => put_ending(alloc, out, ending),
+    }
+}
+
+/// Does what the words ask for, and answers the exit status.
+pub fn run<L: Library, K: Sink>(alloc: Global, words: &[String], lib: &mut L, out: &mut K) -> u8
+    requires lib { L.faults lib.old < 2 ^ 64 - 1 }
+    requires out { K.faults out.old < 2 ^ 64 - 1 }
+    ensures known { result ≤ 9 }
+
+    // `validate-task` answers 0 only where the plan is valid, and then its line with the makespan was written.
+    ensures valid { IfSome (L.holds lib.old) (λ files. (task_name plan_name : List ℕ) → AsksValidation (map string_bytes words.now) task_name plan_name → result ≡ 0
+        → (m : ℕ) × HoldValidPlan files task_name plan_name m × (K.written out.new ≡ append_known (K.written out.old) (valid_line m))) }
+    // Where the plan is valid it answers 0, unless a read or a write fails or memory is refused.
+    ensures validates { IfSome (L.holds lib.old) (λ files. (task_name plan_name : List ℕ) (m : ℕ) → AsksValidation (map string_bytes words.now) task_name plan_name → HoldValidPlan files task_name plan_name m
+        → K.faults out.new ≡ K.faults out.old → (L.faults lib.new ≡ L.faults lib.old) ⊎ IsTrue (L.steady lib.old)
+        → (result ≡ 9) ⊎ ((result ≡ 0) × (K.written out.new ≡ append_known (K.written out.old) (valid_line m)))) }
+
+    // A status below 7 comes only where it is the answer to the words over the files, and then the answer's text was written.
+    ensures only { IfSome (L.holds lib.old) (λ files. result < 7
+        → (text : List ℕ) × Answers files (map string_bytes words.now) (record { status = result; text = text }) × (K.written out.new ≡ append_known (K.written out.old) text)) }
+    // The answer is given, unless a read or a write fails or memory is refused. Over a steady library a read fails only where a file is not held.
+    ensures complete { IfSome (L.holds lib.old) (λ files. (answer : Answer) → Answers files (map string_bytes words.now) answer → answer.status ≢ 7
+        → K.faults out.new ≡ K.faults out.old → (L.faults lib.new ≡ L.faults lib.old) ⊎ IsTrue (L.steady lib.old)
+        → (result ≡ 9) ⊎ ((result ≡ answer.status) × (K.written out.new ≡ append_known (K.written out.old) answer.text))) }
+
+    // 5 comes only where the words ask for no command, and wherever they do, unless the write fails.
+    ensures usage { result ≡ 5 → IsUsage (map string_bytes words.now) }
+    ensures unknown { IsUsage (map string_bytes words.now) → (result ≡ 5) ⊎ (result ≡ 8) }
+
+    // 7 comes exactly where a read failed and no write did.
+    ensures read { (result ≡ 7) ↔ ((L.faults lib.old < L.faults lib.new) × (K.faults out.new ≡ K.faults out.old)) }
+    ensures read_text { result ≡ 7 → K.written out.new ≡ append_known (K.written out.old) read_line }
+    // Over a steady library a read fails only where a file that the words name, and that is reached, is not held.
+    ensures lacking { IfSome (L.holds lib.old) (λ files. IsTrue (L.steady lib.old) → L.faults lib.old < L.faults lib.new
+        → Answers files (map string_bytes words.now) (record { status = 7; text = read_line })) }
+
+    // 8 comes exactly where a write failed, and then a front of a text was written that the words may write.
+    ensures write { (result ≡ 8) ↔ (K.faults out.old < K.faults out.new) }
+    ensures front { IfSome (L.holds lib.old) (λ files. result ≡ 8
+        → (text : List ℕ) × MayWrite files (map string_bytes words.now) text × AppendsFront (K.written out.old) (K.written out.new) text) }
+
+    // 9 says that memory was refused.
+    ensures memory { result ≡ 9 → K.written out.new ≡ append_known (K.written out.old) memory_line }
+
+    // No count of faults falls.
+    ensures reads { L.faults lib.old ≤ L.faults lib.new }
+    ensures writes { K.faults out.old ≤ K.faults out.new }
+{
+    let answer = reply_in(alloc, words, lib);
+    put(alloc, out, answer)
+}
