@@ -7,7 +7,7 @@ use cpt_sexp::parse;
 use std::alloc::Global;
 
 const DOMAIN: &[u8] =
-    b"(define (domain d) (:types t u - t) (:constants c - t) (:predicates (p ?x - t) (g) (at ?x - t)) (:functions (f ?x - u) (w)) (:durative-action a :parameters (?x - u) :duration (= ?duration (f ?x)) :effect (at end (g))))";
+    b"(define (domain d) (:types t - object u - t) (:constants c - t) (:predicates (p ?x - t) (g) (at ?x - t)) (:functions (f ?x - u) (w)) (:durative-action a :parameters (?x - u) :duration (= ?duration (f ?x)) :effect (at end (g))))";
 
 /// The domain that the texts are of.
 fn domain_here(alloc: Global) -> Option<Domain> {
