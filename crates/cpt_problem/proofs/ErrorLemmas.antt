@@ -1,5 +1,5 @@
-use Rattle.std.proofs.Common.{◌≡◌, ap}
-use Rattle.std.specs.Prelude.{Result, Ok, Err}
+use Rattle.std.proofs.Common.{ap}
+use Rattle.std.specs.Prelude.{Result}
 use Rattle.cpt_pddl.specs.declared.fault.Fault.{Fault}
 use Rattle.cpt_pddl.specs.declared.fault.Fault.TheVariants as faults
 use Rattle.cpt_pddl.specs.Faults as pddl

@@ -1,4 +1,4 @@
-use Rattle.std.specs.Prelude.{ℕ, ◌==◌, Bool, true, false, if◌then◌else◌, map, drop, List, [], ◌∷◌, length}
+use Rattle.std.specs.Prelude.{ℕ, ◌==◌, Bool, true, false, if◌then◌else◌, map, drop, List, [], ◌∷◌}
 use Rattle.cpt_pddl.specs.declared.typed.Typed.{Typed}
 use Rattle.cpt_declared.specs.declared.declared.Declared.{Declared}
 use Rattle.cpt_schema.specs.declared.durations.Lasting.{Lasting}

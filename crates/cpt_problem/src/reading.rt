@@ -1,6 +1,9 @@
 //! Reads a problem.
 
-ghost use Rattle.std.specs.Prelude.{◌≡◌, length, Ok};
+ghost use Rattle.std.specs.Prelude.{◌≡◌, length, Ok, IfOk};
+ghost use Rattle.cpt_sexp.specs.Grammar.{IsForest};
+ghost use Rattle.cpt_facts.specs.Fitting.{Fits};
+ghost use Rattle.cpt_domain.specs.Sound.{IsSound};
 ghost use Rattle.cpt_pddl.specs.Faults.{Gives};
 ghost use Rattle.cpt_pddl.specs.Items.{left, said_by};
 ghost use Rattle.cpt_problem.specs.Errors.{Answers, of_problem, problem_error};
@@ -113,18 +116,37 @@ fn problem_error(fault: Fault) -> ProblemError
     }
 }
 
-/// The problem of the domain that the text is, or its first fault from left to right.
+/// The place before everything that a text says.
+fn start(forest: &Forest) -> Cursor<'_>
+    ensures place { left result ≡ said_by forest.now }
+    ensures forest { IsForest forest.now }
+{
+    let _text = forest.text();
+    Cursor::new(forest)
+}
+
 #[tactic(auto, using(crate::proofs::ErrorLemmas::answers_of), unfolding(crate::specs::Reading::problem_of))]
+fn read(alloc: Global, domain: &Domain, forest: &Forest) -> Result<Problem, ProblemError>
+    ensures exact { Answers result (problem_of domain.now forest.now) }
+    ensures forest { IsForest forest.now }
+{
+    match problem_in(alloc, domain, start(forest)) {
+        Ok(problem) => Ok(problem),
+        Err(fault) => Err(problem_error(fault)),
+    }
+}
+
+/// The problem of the domain that the text is, or its first fault from left to right. It fits the domain.
+#[tactic(auto, using(crate::proofs::FitLemmas::answer_fits))]
 pub fn read_problem(
     alloc: Global,
     domain: &Domain,
     forest: &Forest,
 ) -> Result<Problem, ProblemError>
+    requires sound { IsSound domain.now }
     // The text says so, or has this fault.
     ensures exact { Answers result (problem_of domain.now forest.now) }
+    ensures fits { IfOk result (λ p. Fits domain.now p) }
 {
-    match problem_in(alloc, domain, Cursor::new(forest)) {
-        Ok(problem) => Ok(problem),
-        Err(fault) => Err(problem_error(fault)),
-    }
+    read(alloc, domain, forest)
 }

@@ -1,5 +1,8 @@
 //! Texts with their faults, and a problem whole.
 
+ghost use Rattle.std.specs.Prelude.{IfSome};
+ghost use Rattle.cpt_domain.specs.Sound.{IsSound};
+
 use crate::{ProblemError, read_problem};
 use cpt_domain::{Domain, read_domain};
 use cpt_pddl::Feature;
@@ -10,7 +13,9 @@ const DOMAIN: &[u8] =
     b"(define (domain d) (:types t - object u - t) (:constants c - t) (:predicates (p ?x - t) (g) (at ?x - t)) (:functions (f ?x - u) (w)) (:durative-action a :parameters (?x - u) :duration (= ?duration (f ?x)) :effect (at end (g))))";
 
 /// The domain that the texts are of.
-fn domain_here(alloc: Global) -> Option<Domain> {
+fn domain_here(alloc: Global) -> Option<Domain>
+    ensures { IfSome result IsSound }
+{
     match parse(alloc, DOMAIN) {
         Ok(forest) => read_domain(alloc, &forest).ok(),
         Err(_) => None,
@@ -18,7 +23,9 @@ fn domain_here(alloc: Global) -> Option<Domain> {
 }
 
 /// The fault of a text that is parsed.
-fn fault_of(alloc: Global, domain: &Domain, text: &[u8]) -> Option<ProblemError> {
+fn fault_of(alloc: Global, domain: &Domain, text: &[u8]) -> Option<ProblemError>
+    requires { IsSound domain.now }
+{
     if text.len() > 16_777_216 {
         return None;
     }
