@@ -1,0 +1,9 @@
+mod ErrorLemmas
+mod FitLemmas
+mod GoalLemmas
+mod InitLemmas
+mod ObjectLemmas
+mod PairLemmas
+mod SizeLemmas
+mod Steps
+mod TypedLemmas

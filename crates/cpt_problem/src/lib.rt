@@ -1,0 +1,16 @@
+//! Problems, and how they are read.
+#![tactic(auto)]
+
+mod error;
+mod goals;
+mod inits;
+mod objects;
+mod reading;
+mod sections;
+mod tables;
+#[cfg(test)]
+mod tests;
+
+pub use cpt_facts::{Fact, Problem, Valued};
+pub use error::ProblemError;
+pub use reading::read_problem;
