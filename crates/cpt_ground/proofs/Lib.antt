@@ -1,0 +1,5 @@
+pub mod Facts
+pub mod Numbers
+pub mod Plans
+pub mod Timelines
+pub mod Unique

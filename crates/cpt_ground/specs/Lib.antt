@@ -1,0 +1,5 @@
+pub mod Compiled
+pub mod Instances
+pub mod Laws
+pub mod Reading
+pub mod Signed
