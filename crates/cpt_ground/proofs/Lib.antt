@@ -1,5 +1,8 @@
+pub mod Determined
 pub mod Facts
+pub mod KindLemmas
 pub mod Numbers
 pub mod Plans
 pub mod Timelines
 pub mod Unique
+pub mod ValueLemmas

@@ -152,7 +152,7 @@ same_zip R one (x ∷ xs) (y ∷ ys) (z ∷ zs) h k =
     let rest : ys ≡ zs = same_zip R one xs ys zs h.1 k.1 in
     cc
 
-four : {A B C D G : Type 0} (f : A → B → C → D → G) (a a' : A) (b b' : B) (c c' : C) (d d' : D)
+pub four : {A B C D G : Type 0} (f : A → B → C → D → G) (a a' : A) (b b' : B) (c c' : C) (d d' : D)
     → a ≡ a' → b ≡ b' → c ≡ c' → d ≡ d' → f a b c d ≡ f a' b' c' d'
 four f a a' b b' c c' d d' p q r s = cc
 

@@ -18,6 +18,10 @@ pub record HasSamePlans (t : TaskShape) (s : Signed) : Type 0 where
 abbrev pub OneReading : Type 0
 OneReading = (d : Domain) (p : Problem) (s r : Signed) → Fits d p → IsReading d p s → IsReading d p r → s ≡ r
 
+-- a domain and a problem that fits it have one ground task
+abbrev pub OneGround : Type 0
+OneGround = (d : Domain) (p : Problem) (t u : TaskShape) → Fits d p → IsGround d p t → IsGround d p u → t ≡ u
+
 -- A ground task whose numbers are in range has the plans of the reading with absence of its domain and problem: the
 -- same lists of occurrences, so the same action numbers and starts, are valid, and with the same makespans.
 abbrev pub SamePlans : Type 0

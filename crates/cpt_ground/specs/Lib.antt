@@ -3,3 +3,4 @@ pub mod Instances
 pub mod Laws
 pub mod Reading
 pub mod Signed
+pub mod Values
