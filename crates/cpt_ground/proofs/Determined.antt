@@ -1,9 +1,9 @@
-use Rattle.std.proofs.Common.{◌≡◌, ℕ, ◌<◌, ◌⊎◌, inl, inr, Bool, List, map, refl, sym, ap, ◌∙◌, subst, arith}
+use Rattle.std.proofs.Common.{◌≡◌, ℕ, ◌<◌, inl, inr, Bool, List, map, sym, ap, ◌∙◌, subst, arith}
 use Rattle.std.proofs.lemmas.List.Kept.{AllPairs-from_increasing}
 use Rattle.cpt_facts.specs.declared.problem.Fact.{Fact}
 use Rattle.cpt_task.specs.declared.task.Action.{Action}
 use Rattle.cpt_task.specs.Shape.{TaskShape}
-use Rattle.cpt_ground.specs.Compiled.{Literal, there, missing, IsFactBefore, IsLiteralBefore, AreLiterals, AreNumbers, needs, adds, deletes, is_initial, is_goal, IsCompiledAction, IsCompiledBy, IsGround, literal_name}
+use Rattle.cpt_ground.specs.Compiled.{Literal, there, missing, IsFactBefore, IsLiteralBefore, AreLiterals, AreNumbers, needs, adds, deletes, is_initial, is_goal, IsCompiledAction, IsCompiledBy, literal_name}
 use Rattle.cpt_ground.specs.Signed.{Signed, SignedAction}
 use Rattle.cpt_ground.specs.Laws.{OneGround}
 use Rattle.cpt_ground.proofs.Unique.{IsOrder, same_list, same_zip, list_irreflexive, list_asymmetric, four, one_reading}
