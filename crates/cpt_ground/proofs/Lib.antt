@@ -1,13 +1,6 @@
-pub mod Answering
 pub mod Determined
 pub mod Facts
-pub mod KindLemmas
 pub mod Numbers
-pub mod Objects
 pub mod Plans
-pub mod Reading
-pub mod Steps
 pub mod Timelines
 pub mod Unique
-pub mod ValueLemmas
-pub mod Words

@@ -1,10 +1,6 @@
-//! The ground task of a domain and a problem, its reading with absence, and the names of instances.
+//! What the ground task of a domain and a problem is, and laws of it.
 #![tactic(auto)]
 
-mod instance;
 mod laws;
-mod names;
-mod values;
 
-pub use instance::instance_of;
 pub use laws::{one_ground, one_reading, same_plans};
