@@ -473,24 +473,27 @@ pub(crate) fn first_token(list: &[Cand]) -> u32
     }
 }
 
+fn raise(at: Cand, to: Span) -> Change
+    ensures { result ≡ Change.Raise at to }
+{
+    Change::Raise { at, to }
+}
+
+fn lower(at: Cand, to: Span) -> Change
+    ensures { result ≡ Change.Lower at to }
+{
+    Change::Lower { at, to }
+}
+
 /// What a step changes.
 pub fn change(sheet: &Sheet, step: Step) -> Change
     ensures { result ≡ change_of sheet.now step }
 {
     match step {
-        Step::R1 { second, to, .. } => Change::Raise {
-            at: Cand::Tok(second),
-            to,
-        },
-        Step::R2 { first, to, .. } => Change::Lower {
-            at: Cand::Tok(first),
-            to,
-        },
+        Step::R1 { second, to, .. } => raise(Cand::Tok(second), to),
+        Step::R2 { first, to, .. } => lower(Cand::Tok(first), to),
         Step::R3 { first, second } => Change::Post { first, second },
-        Step::R4 { tok, to, .. } => Change::Raise {
-            at: Cand::Tok(tok),
-            to,
-        },
+        Step::R4 { tok, to, .. } => raise(Cand::Tok(tok), to),
         Step::R5 { tok, pre, cand } => Change::Take { tok, pre, cand },
         Step::R6 { tok, pre } => Change::Post {
             first: first_token(list(sheet, tok, pre)),
@@ -510,26 +513,11 @@ pub fn change(sheet: &Sheet, step: Step) -> Change
             first: foe,
             second: first_token(list(sheet, tok, pre)),
         },
-        Step::R10 { act, to, .. } => Change::Raise {
-            at: Cand::Out(act),
-            to,
-        },
-        Step::R11After { act, to, .. } => Change::Raise {
-            at: Cand::Out(act),
-            to,
-        },
-        Step::R11Ahead { act, to, .. } => Change::Lower {
-            at: Cand::Out(act),
-            to,
-        },
-        Step::R12After { act, to, .. } => Change::Raise {
-            at: Cand::Out(act),
-            to,
-        },
-        Step::R12Ahead { act, to, .. } => Change::Lower {
-            at: Cand::Out(act),
-            to,
-        },
+        Step::R10 { act, to, .. } => raise(Cand::Out(act), to),
+        Step::R11After { act, to, .. } => raise(Cand::Out(act), to),
+        Step::R11Ahead { act, to, .. } => lower(Cand::Out(act), to),
+        Step::R12After { act, to, .. } => raise(Cand::Out(act), to),
+        Step::R12Ahead { act, to, .. } => lower(Cand::Out(act), to),
         Step::R13 { tok, pre, cand, .. } => Change::Take { tok, pre, cand },
     }
 }
