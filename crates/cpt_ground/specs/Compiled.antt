@@ -7,7 +7,7 @@ use Rattle.cpt_facts.specs.declared.problem.Problem.{Problem}
 use Rattle.cpt_facts.specs.Fitting.{predicate_at}
 use Rattle.cpt_task.specs.declared.task.Action.{Action}
 use Rattle.cpt_task.specs.Shape.{TaskShape}
-use Rattle.cpt_ground.specs.Instances.{IsListBefore, group_of, names_of}
+use Rattle.cpt_instance.specs.Instances.{IsListBefore, group_of, names_of}
 use Rattle.cpt_ground.specs.Reading.{IsReading}
 use Rattle.cpt_ground.specs.Signed.{Signed, SignedAction, has}
 
