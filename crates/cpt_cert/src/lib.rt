@@ -1,0 +1,6 @@
+//! The text of certificates: the lines of its two versions, and the whole certificate that a text spells.
+#![tactic(auto)]
+
+mod forms;
+
+pub use forms::{Cert, CertLine, Claim, Run, Version};
