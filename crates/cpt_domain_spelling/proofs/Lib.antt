@@ -1,0 +1,6 @@
+mod ItemLemmas
+mod KindLemmas
+mod NameLemmas
+mod SignatureLemmas
+mod TypedLemmas
+mod VariableLemmas

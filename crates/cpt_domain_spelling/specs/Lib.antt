@@ -1,0 +1,4 @@
+pub mod Laws
+pub mod Saying
+pub mod Spellable
+pub mod Spelling

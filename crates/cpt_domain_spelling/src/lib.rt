@@ -1,0 +1,7 @@
+//! Each sound domain has a spelling, which is read as itself: laws of the words and groups that spell it. Their
+//! contracts are what they say, and their bodies are empty.
+#![tactic(auto)]
+
+mod laws;
+
+pub use laws::{functions_read_back, predicates_read_back, typed_lists_read_back, types_read_back};
