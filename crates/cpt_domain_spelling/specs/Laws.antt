@@ -1,4 +1,4 @@
-use Rattle.std.specs.Prelude.{◌≡◌, ℕ, ◌<◌, true, List, length, All, Ok}
+use Rattle.std.specs.Prelude.{◌≡◌, ℕ, ◌<◌, ◌≤◌, true, List, [], length, slice_index_or, All, Ok}
 use Rattle.cpt_pddl.specs.declared.typed.Sort.{Sort}
 use Rattle.cpt_pddl.specs.declared.typed.Typed.{Typed}
 use Rattle.cpt_pddl.specs.Items.{Items}
@@ -7,11 +7,18 @@ use Rattle.cpt_declared.specs.declared.kinds.Kinds.{Kinds}
 use Rattle.cpt_declared.specs.declared.signatures.Signatures.{Signatures}
 use Rattle.cpt_declared.specs.Kinds.{is_rooted, kinds_in}
 use Rattle.cpt_declared.specs.Signatures.{functions_in, no_signatures, predicates_in}
+use Rattle.cpt_declared.specs.declared.declared.Declared.{Declared}
+use Rattle.cpt_schema.specs.declared.schemas.Schema.{Schema}
+use Rattle.cpt_schema.specs.declared.terms.Term.{Term}
+use Rattle.cpt_schema.specs.Conditions.{condition_in}
+use Rattle.cpt_schema.specs.Schemas.{no_conds}
+use Rattle.cpt_schema.specs.Terms.{applied}
 use Rattle.cpt_domain.specs.SoundKinds.{AreSignatures, AreTyped}
 use Rattle.cpt_domain.specs.SoundNames.{AreDifferent}
+use Rattle.cpt_domain.specs.SoundSchemas.{IsApplied}
 use Rattle.cpt_domain_spelling.specs.Saying.{says}
-use Rattle.cpt_domain_spelling.specs.Spellable.{AreDistinct, AreFree, AreInOrder}
-use Rattle.cpt_domain_spelling.specs.Spelling.{kinds_nest, signatures_nest, typed_nest}
+use Rattle.cpt_domain_spelling.specs.Spellable.{AreDistinct, AreFree, AreInOrder, AreOfTypes, HasSpelling, IsSoundOver, IsTyped}
+use Rattle.cpt_domain_spelling.specs.Spelling.{conditions_nest, kinds_nest, named, parameters_of, signatures_nest, terms_nest, typed_nest}
 
 -- a typed list that says different names with their types, each of one of these types, is read as them
 abbrev pub TypedListsReadBack : Type 0
@@ -37,3 +44,17 @@ abbrev pub FunctionsReadBack : Type 0
 FunctionsReadBack =
     (types : List (List ℕ)) (sigs : Signatures) (items : Items) → AreDistinct types → AreDistinct sigs.names → AreSignatures (length types) sigs →
     says items ≡ signatures_nest types sigs.names sigs.kinds → functions_in types no_signatures items ≡ Ok sigs
+
+-- a predicate or function with its terms, each of the type that is wanted there, is read as it is
+abbrev pub TermsReadBack : Type 0
+TermsReadBack =
+    (d : Declared) (params : List ℕ) (sigs : Signatures) (atom at number : ℕ) (terms : List Term) (items : Items) → HasSpelling d → length params ≤ 16 →
+    AreDistinct sigs.names → length sigs.kinds ≡ length sigs.names → IsApplied (length params) (length d.constants.names) sigs.kinds number terms →
+    AreOfTypes d params (slice_index_or sigs.kinds number []) terms → says items ≡ terms_nest d terms →
+    applied d (parameters_of params) sigs atom at (named sigs.names number) items ≡ Ok (record { pred = number; terms = terms })
+
+-- the conditions of an action are read as they are
+abbrev pub ConditionsReadBack : Type 0
+ConditionsReadBack =
+    (d : Declared) (s : Schema) (at : ℕ) (items : Items) → HasSpelling d → IsSoundOver d s → IsTyped d s → says items ≡ conditions_nest d s →
+    condition_in d (parameters_of s.kinds) no_conds at items ≡ Ok (record { pre = s.pre; absent = s.absent; tests = s.tests })

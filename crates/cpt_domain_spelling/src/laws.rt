@@ -1,6 +1,6 @@
 //! The laws.
 
-ghost use Rattle.cpt_domain_spelling.specs.Laws.{FunctionsReadBack, PredicatesReadBack, TypedListsReadBack, TypesReadBack};
+ghost use Rattle.cpt_domain_spelling.specs.Laws.{ConditionsReadBack, FunctionsReadBack, PredicatesReadBack, TermsReadBack, TypedListsReadBack, TypesReadBack};
 
 /// A typed list that says different names with their types is read as these names and types.
 pub fn typed_lists_read_back()
@@ -20,4 +20,16 @@ pub fn predicates_read_back()
 /// Functions that are said with their variables are read as they are.
 pub fn functions_read_back()
     ensures { FunctionsReadBack }
+{}
+
+/// A predicate or function with its terms is read as it is, where each term is of the type that is wanted there or
+/// of a type below it.
+pub fn terms_read_back()
+    ensures { TermsReadBack }
+{}
+
+/// The conditions of a sound action are read as they are: the atoms that are to be there, those that are to be absent,
+/// and the tests.
+pub fn conditions_read_back()
+    ensures { ConditionsReadBack }
 {}

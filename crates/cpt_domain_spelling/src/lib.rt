@@ -4,4 +4,7 @@
 
 mod laws;
 
-pub use laws::{functions_read_back, predicates_read_back, typed_lists_read_back, types_read_back};
+pub use laws::{
+    conditions_read_back, functions_read_back, predicates_read_back, terms_read_back,
+    typed_lists_read_back, types_read_back,
+};
