@@ -1,3 +1,5 @@
+mod DurationLemmas
+mod EffectLemmas
 mod ConditionLemmas
 mod ItemLemmas
 mod KindLemmas

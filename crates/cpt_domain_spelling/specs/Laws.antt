@@ -1,4 +1,5 @@
-use Rattle.std.specs.Prelude.{◌≡◌, ℕ, ◌<◌, ◌≤◌, true, List, [], length, slice_index_or, All, Ok}
+use Rattle.std.specs.Prelude.{◌≡◌, ℕ, ◌<◌, ◌≤◌, true, List, [], length, slice_index_or, All, Ok, codes}
+use Rattle.cpt_sexp.specs.Printing.{nothing, name, list}
 use Rattle.cpt_pddl.specs.declared.typed.Sort.{Sort}
 use Rattle.cpt_pddl.specs.declared.typed.Typed.{Typed}
 use Rattle.cpt_pddl.specs.Items.{Items}
@@ -8,17 +9,20 @@ use Rattle.cpt_declared.specs.declared.signatures.Signatures.{Signatures}
 use Rattle.cpt_declared.specs.Kinds.{is_rooted, kinds_in}
 use Rattle.cpt_declared.specs.Signatures.{functions_in, no_signatures, predicates_in}
 use Rattle.cpt_declared.specs.declared.declared.Declared.{Declared}
+use Rattle.cpt_schema.specs.declared.durations.Lasting.{Lasting}
 use Rattle.cpt_schema.specs.declared.schemas.Schema.{Schema}
 use Rattle.cpt_schema.specs.declared.terms.Term.{Term}
 use Rattle.cpt_schema.specs.Conditions.{condition_in}
-use Rattle.cpt_schema.specs.Schemas.{no_conds}
+use Rattle.cpt_schema.specs.Durations.{duration_in}
+use Rattle.cpt_schema.specs.Effects.{Effs, timed_effect_in}
+use Rattle.cpt_schema.specs.Schemas.{lits_of, no_conds, no_effs}
 use Rattle.cpt_schema.specs.Terms.{applied}
 use Rattle.cpt_domain.specs.SoundKinds.{AreSignatures, AreTyped}
 use Rattle.cpt_domain.specs.SoundNames.{AreDifferent}
-use Rattle.cpt_domain.specs.SoundSchemas.{IsApplied}
+use Rattle.cpt_domain.specs.SoundSchemas.{IsApplied, IsLasting}
 use Rattle.cpt_domain_spelling.specs.Saying.{says}
-use Rattle.cpt_domain_spelling.specs.Spellable.{AreDistinct, AreFree, AreInOrder, AreOfTypes, HasSpelling, IsSoundOver, IsTyped}
-use Rattle.cpt_domain_spelling.specs.Spelling.{conditions_nest, kinds_nest, named, parameters_of, signatures_nest, terms_nest, typed_nest}
+use Rattle.cpt_domain_spelling.specs.Spellable.{AreDistinct, AreFree, AreInOrder, AreOfTypes, HasSpelling, IsSoundOver, IsTyped, IsTypedLasting}
+use Rattle.cpt_domain_spelling.specs.Spelling.{conditions_nest, duration_nest, effects_nest, kinds_nest, named, parameters_of, signatures_nest, terms_nest, typed_nest}
 
 -- a typed list that says different names with their types, each of one of these types, is read as them
 abbrev pub TypedListsReadBack : Type 0
@@ -58,3 +62,17 @@ abbrev pub ConditionsReadBack : Type 0
 ConditionsReadBack =
     (d : Declared) (s : Schema) (at : ℕ) (items : Items) → HasSpelling d → IsSoundOver d s → IsTyped d s → says items ≡ conditions_nest d s →
     condition_in d (parameters_of s.kinds) no_conds at items ≡ Ok (record { pre = s.pre; absent = s.absent; tests = s.tests })
+
+-- the effects at the end of an action are read as the atoms that they add and delete
+abbrev pub EffectsReadBack : Type 0
+EffectsReadBack =
+    (d : Declared) (s : Schema) (at : ℕ) (items : Items) → HasSpelling d → IsSoundOver d s → IsTyped d s →
+    says items ≡ name (codes "at") (name (codes "end") (list (effects_nest d s) nothing)) →
+    (effs : Effs) × (timed_effect_in d (parameters_of s.kinds) no_effs at items ≡ Ok effs) × (lits_of effs.adds ≡ s.add) × (lits_of effs.dels ≡ s.dele)
+
+-- a duration is read as it is
+abbrev pub DurationsReadBack : Type 0
+DurationsReadBack =
+    (d : Declared) (params : List ℕ) (from : ℕ) (lasting : Lasting) (items : Items) → HasSpelling d → length params ≤ 16 →
+    IsLasting (length params) (length d.constants.names) d.functions.kinds lasting → IsTypedLasting d params lasting → says items ≡ duration_nest d lasting →
+    duration_in d (parameters_of params) from items ≡ Ok lasting

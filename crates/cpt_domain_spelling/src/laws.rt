@@ -1,6 +1,6 @@
 //! The laws.
 
-ghost use Rattle.cpt_domain_spelling.specs.Laws.{ConditionsReadBack, FunctionsReadBack, PredicatesReadBack, TermsReadBack, TypedListsReadBack, TypesReadBack};
+ghost use Rattle.cpt_domain_spelling.specs.Laws.{ConditionsReadBack, DurationsReadBack, EffectsReadBack, FunctionsReadBack, PredicatesReadBack, TermsReadBack, TypedListsReadBack, TypesReadBack};
 
 /// A typed list that says different names with their types is read as these names and types.
 pub fn typed_lists_read_back()
@@ -32,4 +32,14 @@ pub fn terms_read_back()
 /// and the tests.
 pub fn conditions_read_back()
     ensures { ConditionsReadBack }
+{}
+
+/// The effects at the end of a sound action are read as the atoms that they add and those that they delete.
+pub fn effects_read_back()
+    ensures { EffectsReadBack }
+{}
+
+/// A duration is read as it is: a number, or a function with its terms.
+pub fn durations_read_back()
+    ensures { DurationsReadBack }
 {}
