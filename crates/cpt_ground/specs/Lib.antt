@@ -1,4 +1,5 @@
 pub mod Compiled
+pub mod Grounding
 pub mod Laws
 pub mod Reading
 pub mod Signed

@@ -5,21 +5,9 @@ use Rattle.cpt_facts.specs.declared.problem.Fact.{Fact}
 use Rattle.cpt_task.specs.declared.plan.Occ.{Occ}
 use Rattle.cpt_task.specs.Timeline.{occurrence_at}
 
--- an action that needs atoms present and atoms absent
-pub record SignedAction : Type 0 where
-  pub name : List ℕ
-  pub dur : ℕ
-  pub present : List Fact
-  pub absent : List Fact
-  pub add : List Fact
-  pub dele : List Fact
-
--- a task whose actions and goal need atoms present and atoms absent
-pub record Signed : Type 0 where
-  pub actions : List SignedAction
-  pub init : List Fact
-  pub goal : List Fact
-  pub absent : List Fact
+-- actions that need atoms present and atoms absent, and a task of them
+pub use Rattle.cpt_ground.specs.declared.signed.SignedAction.{SignedAction}
+pub use Rattle.cpt_ground.specs.declared.signed.Signed.{Signed}
 
 -- two ground atoms are one
 abbrev pub same_fact : Fact → Fact → Bool

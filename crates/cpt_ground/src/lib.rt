@@ -1,6 +1,11 @@
-//! What the ground task of a domain and a problem is, and laws of it.
+//! The ground task of a domain and a problem, and laws of it.
 #![tactic(auto)]
 
+mod grounding;
 mod laws;
+mod signed;
 
+pub use cpt_instance::GroundError;
+pub use grounding::ground;
 pub use laws::{one_ground, one_reading, same_plans};
+pub use signed::{Signed, SignedAction};

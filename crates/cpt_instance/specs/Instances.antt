@@ -14,11 +14,8 @@ use Rattle.cpt_domain.specs.declared.domain.ObjectDecl.{ObjectDecl}
 use Rattle.cpt_facts.specs.declared.problem.Fact.{Fact}
 use Rattle.cpt_facts.specs.declared.problem.Problem.{Problem}
 use Rattle.cpt_facts.specs.Fitting.{objects_of}
-
 -- a schema's number, and an object for each of its parameters
-pub record Instance : Type 0 where
-  pub schema : ℕ
-  pub args : List ℕ
+pub use Rattle.cpt_instance.specs.declared.instances.Instance.{Instance}
 
 -- the parent of each type
 abbrev pub parents_of : Domain → List ℕ
