@@ -2,5 +2,6 @@
 #![tactic(auto)]
 
 mod forms;
+mod words;
 
 pub use forms::{Cert, CertLine, Claim, Run, Version};
