@@ -2,6 +2,7 @@
 #![tactic(auto)]
 
 mod forms;
+mod steps;
 mod words;
 
 pub use forms::{Cert, CertLine, Claim, Run, Version};

@@ -3,7 +3,7 @@
 ghost use Rattle.std.specs.Prelude.{◌≡◌, true, ◌<◌, ◌≤◌, ◌^◌, ◌==◌, None, Some, map, option_map, length, slice_index_or, IfOk, IfSome, MatchOption};
 ghost use Rattle.std.specs.Str.{bytes_eq, all_ascii_digits};
 ghost use Rattle.std.specs.Str.Parse.{digits_value};
-ghost use Rattle.cpt_cert.specs.Reading.{words_in, cut, is_numeral, number_in, number_to, id_in, span_in, cand_in, is_after_in};
+ghost use Rattle.cpt_cert.specs.Reading.{words_in, cut, is_numeral, number_in, number_to, id_in, span_in, cand_in, is_after_in, out_in};
 
 use cpt_line::count_digits;
 use cpt_sheet::Cand;
@@ -153,6 +153,20 @@ pub fn is_after(word: &[u8]) -> Option<bool>
     }
     if is_word(word, b"ahead") {
         return Some(false);
+    }
+    None
+}
+
+/// The number of an action behind `o`.
+#[tactic(auto, unfolding(crate::specs::Reading::out_in))]
+pub fn out(word: &[u8]) -> Option<u32>
+    ensures { result ≡ out_in word.now }
+{
+    let [kind, digits @ ..] = word else {
+        return None;
+    };
+    if *kind == b'o' {
+        return id(digits);
     }
     None
 }
