@@ -1,7 +1,7 @@
 //! The lines of steps.
 
 ghost use Rattle.std.specs.Prelude.{◌≡◌, map, option_map};
-ghost use Rattle.cpt_cert.specs.Reading.{only_in, two_in, three_in, alone_span_in, alone_cand_in, alone_out_in, cand_id_in, id_side_in, side_span_in, id_side_span_in, step_in};
+ghost use Rattle.cpt_cert.specs.Reading.{only_in, two_in, three_in, alone_span_in, alone_cand_in, alone_out_in, cand_id_in, id_side_in, side_span_in, id_side_span_in, step_in, r9, r11, r12};
 
 use crate::words::{cand, id, is_after, out, span};
 use cpt_sheet::{Cand, Step};
@@ -100,4 +100,80 @@ fn id_side_and_span(words: &[&[u8]]) -> Option<(u32, bool, Span)>
     let after = is_after(second)?;
     let to = span(third)?;
     Some((number, after, to))
+}
+
+#[tactic(auto, unfolding(crate::specs::Reading::step_in))]
+fn step(rule: u64, tok: u32, pre: u32, rest: &[&[u8]]) -> Option<Step>
+    ensures { result ≡ step_in rule tok pre (map (λ w. w.now) rest.now) }
+{
+    match rule {
+        1 => alone_span(rest).map(|to| Step::R1 {
+            first: tok,
+            second: pre,
+            to,
+        }),
+        2 => alone_span(rest).map(|to| Step::R2 {
+            first: tok,
+            second: pre,
+            to,
+        }),
+        3 => rest.is_empty().then_some(Step::R3 {
+            first: tok,
+            second: pre,
+        }),
+        4 => alone_span(rest).map(|to| Step::R4 { tok, pre, to }),
+        5 => alone_cand(rest).map(|cand| Step::R5 { tok, pre, cand }),
+        6 => rest.is_empty().then_some(Step::R6 { tok, pre }),
+        7 => alone_out(rest).map(|act| Step::R7 { tok, pre, act }),
+        8 => cand_and_id(rest).map(|two| Step::R8 {
+            tok,
+            pre,
+            cand: two.0,
+            foe: two.1,
+        }),
+        9 => id_and_side(rest).map(|two| ninth(tok, pre, two)),
+        10 => alone_span(rest).map(|to| Step::R10 { act: tok, pre, to }),
+        11 => id_side_and_span(rest).map(|three| eleventh(tok, pre, three)),
+        12 => side_and_span(rest).map(|two| twelfth(tok, pre, two)),
+        13 => cand_and_id(rest).map(|two| Step::R13 {
+            tok,
+            pre,
+            cand: two.0,
+            other: two.1,
+        }),
+        _ => None,
+    }
+}
+
+fn ninth(tok: u32, pre: u32, side: (u32, bool)) -> Step
+    ensures { result ≡ r9 tok pre side }
+{
+    let (foe, after) = side;
+    if after {
+        Step::R9After { tok, pre, foe }
+    } else {
+        Step::R9Ahead { tok, pre, foe }
+    }
+}
+
+fn eleventh(tok: u32, pre: u32, side: (u32, bool, Span)) -> Step
+    ensures { result ≡ r11 tok pre side }
+{
+    let (act, after, to) = side;
+    if after {
+        Step::R11After { tok, pre, act, to }
+    } else {
+        Step::R11Ahead { tok, pre, act, to }
+    }
+}
+
+fn twelfth(tok: u32, act: u32, side: (bool, Span)) -> Step
+    ensures { result ≡ r12 tok act side }
+{
+    let (after, to) = side;
+    if after {
+        Step::R12After { tok, act, to }
+    } else {
+        Step::R12Ahead { tok, act, to }
+    }
 }
