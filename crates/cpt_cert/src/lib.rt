@@ -2,6 +2,9 @@
 #![tactic(auto)]
 
 mod forms;
+mod nodes;
+mod reading;
+mod rows;
 mod steps;
 mod words;
 

@@ -103,7 +103,7 @@ fn id_side_and_span(words: &[&[u8]]) -> Option<(u32, bool, Span)>
 }
 
 #[tactic(auto, unfolding(crate::specs::Reading::step_in))]
-fn step(rule: u64, tok: u32, pre: u32, rest: &[&[u8]]) -> Option<Step>
+pub fn step(rule: u64, tok: u32, pre: u32, rest: &[&[u8]]) -> Option<Step>
     ensures { result ≡ step_in rule tok pre (map (λ w. w.now) rest.now) }
 {
     match rule {
