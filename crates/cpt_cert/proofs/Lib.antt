@@ -1,2 +1,4 @@
 pub mod Cutting
+pub mod Joining
 pub mod Numerals
+pub mod Parts
