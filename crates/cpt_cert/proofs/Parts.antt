@@ -11,7 +11,7 @@ eq_bytes xs ys h = (bytes_eq-Decides xs ys).0 h
 pub same_bytes : (xs : List ℕ) → bytes_eq xs xs ≡ true
 same_bytes xs = (bytes_eq-Decides xs xs).1 refl
 
-abbrev there : {A : Type 0} → A → Option A
+abbrev pub there : {A : Type 0} → A → Option A
 there x = Some x
 
 pub some_is : {A : Type 0} (x y : A) → there x ≡ there y → x ≡ y
