@@ -1,5 +1,6 @@
 pub mod Cutting
 pub mod Joining
+pub mod LineAgain
 pub mod LineRead
 pub mod Numerals
 pub mod Parts
