@@ -2,5 +2,10 @@
 #![tactic(auto)]
 
 mod forms;
+mod nodes;
+mod reading;
+mod rows;
+mod steps;
+mod words;
 
 pub use forms::{Cert, CertLine, Claim, Run, Version};

@@ -1,0 +1,9 @@
+pub mod Cutting
+pub mod Joining
+pub mod LineAgain
+pub mod LineRead
+pub mod Numerals
+pub mod Parts
+pub mod RowRead
+pub mod StepRead
+pub mod WordRead
