@@ -1,10 +1,11 @@
-use Rattle.std.specs.Prelude.{◌≡◌, ℕ, ◌+◌, ◌<◌, ◌≤◌, ◌⊎◌, zero, suc, Bool, true, false, List, [], ◌∷◌, All, Contains, count_by}
+use Rattle.std.specs.Prelude.{◌≡◌, ℕ, ◌+◌, zero, suc, ◌==◌, ◌&&◌, ◌||◌, nat_lt, nat_le, Bool, true, false, List, [], ◌∷◌, All, count_by}
+use Rattle.std.specs.List.{list_any}
 use Rattle.cpt_task.specs.declared.span.Span.TheVariants.{Never}
 use Rattle.cpt_task.specs.declared.plan.Occ.{Occ}
 use Rattle.cpt_task.specs.Shape.{TaskShape}
 use Rattle.cpt_task.specs.Timeline.{IsValid, makespan}
 use Rattle.cpt_tables.specs.declared.tables.Tables.{Tables}
-use Rattle.cpt_tables.specs.Shapes.{PairShape, FitsPairs, set_span_of}
+use Rattle.cpt_tables.specs.Shapes.{PairShape, FitsPairs, IsWholePairs, IsWholeDists, set_span_of}
 use Rattle.cpt_tables.specs.Admissible.{IsAdmissiblePairs, IsAdmissibleDists}
 use Rattle.cpt_sheet.specs.declared.data.NodeLine.{NodeLine}
 use Rattle.cpt_sheet.specs.declared.data.NodeLine.TheVariants.{Child, Narrow, Close, Branch, OpenNode}
@@ -18,15 +19,15 @@ use Rattle.cpt_cert.specs.Forms.{Spells, spelled}
 use Rattle.cpt_cert.specs.Text.{Parts, cert_lines, cert_text}
 use Rattle.cpt_verdict.specs.Trees.{IsTreeOver}
 
--- an occurrence starts later than another, or with it and is of an action that is not before
-abbrev pub IsNoSooner : Occ → Occ → Type 0
-IsNoSooner o q = (o.start < q.start) ⊎ ((o.start ≡ q.start) × (o.act ≤ q.act))
+-- the second occurrence starts later than the first, or with it and is of an action that is not before
+abbrev pub is_no_sooner : Occ → Occ → Bool
+is_no_sooner o q = nat_lt o.start q.start || ((o.start == q.start) && nat_le o.act q.act)
 
 -- by start, then by action; the same occurrence may stand again
 abbrev pub IsInOrder : List Occ → Type 0
 IsInOrder [] = Unit {0}
 IsInOrder (o ∷ []) = Unit {0}
-IsInOrder (o ∷ q ∷ os) = IsNoSooner o q × IsInOrder (q ∷ os)
+IsInOrder (o ∷ q ∷ os) = (is_no_sooner o q ≡ true) × IsInOrder (q ∷ os)
 
 -- a valid plan with this makespan
 pub record IsPlanOf (t : TaskShape) (m : ℕ) (plan : List Occ) : Type 0 where
@@ -35,11 +36,14 @@ pub record IsPlanOf (t : TaskShape) (m : ℕ) (plan : List Occ) : Type 0 where
 
 -- an admissible pair table of the task's size
 pub record HasPairs (t : TaskShape) (h : PairShape) : Type 0 where
+  pub whole : IsWholePairs h
   pub fits : FitsPairs t h
   pub admissible : IsAdmissiblePairs t h
 
 -- admissible tables of the task's sizes
 pub record HasTables (t : TaskShape) (b : Tables) : Type 0 where
+  pub whole_pairs : IsWholePairs b.pairs
+  pub whole_dists : IsWholeDists b.dists
   pub fits : FitsTask t b
   pub pairs : IsAdmissiblePairs t b.pairs
   pub dists : IsAdmissibleDists t b.pairs b.dists
@@ -52,6 +56,14 @@ is_done Close = true
 is_done (Branch flaw) = true
 is_done OpenNode = false
 
+-- the line leaves a node open
+abbrev pub is_left : NodeLine → Bool
+is_left (Child d) = false
+is_left (Narrow step) = false
+is_left Close = false
+is_left (Branch flaw) = false
+is_left OpenNode = true
+
 -- a tree over the root of a bound in which each node is closed or branched
 abbrev pub IsClosedAt : TaskShape → Tables → ℕ → List NodeLine → Type 0
 IsClosedAt t b bound ls = IsTreeOver t b false (root_of t b bound) ls
@@ -60,7 +72,7 @@ IsClosedAt t b bound ls = IsTreeOver t b false (root_of t b bound) ls
 pub record IsOpenAt (t : TaskShape) (b : Tables) (bound nodes : ℕ) (ls : List NodeLine) : Type 0 where
   pub tree : IsTreeOver t b true (root_of t b bound) ls
   pub count : count_by is_done ls ≡ nodes
-  pub some : Contains ls OpenNode
+  pub some : list_any is_left ls ≡ true
 
 -- a plan, and, where it is longer than nothing, tables and a closed tree at the bound below its makespan
 abbrev pub ProvesOptimal : TaskShape → ℕ → Parts → Type 0
