@@ -1,0 +1,61 @@
+use Rattle.std.specs.Prelude.{◌≡◌, ◌↔◌, ◌≤◌, ℕ, List, [], ◌∷◌}
+use Rattle.cpt_task.specs.declared.plan.Occ.{Occ}
+use Rattle.cpt_task.specs.Shape.{TaskShape, InBounds}
+use Rattle.cpt_task.specs.Timeline.{makespan}
+use Rattle.cpt_task.specs.Optimal.{IsOptimal, IsRefuted, HasNoPlan}
+use Rattle.cpt_soundness.specs.Sets.{HasSets}
+use Rattle.cpt_cert.specs.declared.forms.Version.{Version}
+use Rattle.cpt_cert.specs.declared.forms.Claim.{Claim}
+use Rattle.cpt_cert.specs.declared.forms.Claim.TheVariants as claims
+use Rattle.cpt_cert.specs.declared.forms.CertLine.{CertLine}
+use Rattle.cpt_cert.specs.declared.forms.CertLine.TheVariants as lines
+use Rattle.cpt_cert.specs.declared.forms.Run.{Run}
+use Rattle.cpt_cert.specs.Text.{Parts, cert_lines}
+use Rattle.cpt_verdict.specs.Accepting.{IsInOrder, Proves, IsCertificate}
+use Rattle.cpt_verdict.specs.Reading.{Outcome}
+use Rattle.cpt_verdict.specs.Reading.Outcome.{went}
+use Rattle.cpt_verdict.specs.Descent.{ReadsAll}
+
+-- what a claim says of a task, where it comes with a plan
+abbrev pub HoldsOf : TaskShape → Claim → List Occ → Type 0
+HoldsOf t (claims.Optimal m) plan = IsOptimal t plan × (makespan t plan ≡ m)
+HoldsOf t (claims.NoneUpTo m) plan = IsRefuted t m
+HoldsOf t claims.Never plan = HasNoPlan t
+HoldsOf t (claims.Spent refuted nodes) plan = IsRefuted t refuted
+
+-- Whatever text is a certificate, its claim holds. The premises are what each task gives.
+abbrev pub CertificatesHold : Type 0
+CertificatesHold =
+    (t : TaskShape) (text : List ℕ) (v : Version) (claim : Claim) (c : Parts) → InBounds t → HasSets t → IsCertificate t text v claim c → HoldsOf t claim c.plan
+
+-- The reading of lines has at most one outcome: at most one fault is the first one, and lines that are read whole have
+-- none.
+abbrev pub OneOutcome : Type 0
+OneOutcome = (t : TaskShape) (ls : List CertLine) (o o' : Outcome (Version × Claim)) → ReadsAll t ls o → ReadsAll t ls o' → o ≡ o'
+
+-- each run has a value
+abbrev pub AreFilled : List Run → Type 0
+AreFilled [] = Unit {0}
+AreFilled (run ∷ runs) = (1 ≤ run.count) × AreFilled runs
+
+-- the runs of a row have values, as those of every line that is read have
+abbrev pub IsFilledLine : CertLine → Type 0
+IsFilledLine (lines.PairRow runs) = AreFilled runs
+IsFilledLine (lines.DistRow runs) = AreFilled runs
+IsFilledLine _ = Unit {0}
+
+abbrev pub AllFilled : List CertLine → Type 0
+AllFilled [] = Unit {0}
+AllFilled (l ∷ ls) = IsFilledLine l × AllFilled ls
+
+-- the lines are those of a certificate with these parts
+pub record IsMadeOf (t : TaskShape) (v : Version) (claim : Claim) (ls : List CertLine) (c : Parts) : Type 0 where
+  pub claims : c.claim ≡ claim
+  pub ordered : IsInOrder c.plan
+  pub proves : Proves t claim c
+  pub same : ls ≡ cert_lines v t c
+
+-- lines are those of a certificate exactly where they are read whole, without a fault
+abbrev pub WholeLines : Type 0
+WholeLines =
+    (t : TaskShape) (v : Version) (claim : Claim) (ls : List CertLine) → AllFilled ls → ((c : Parts) × IsMadeOf t v claim ls c) ↔ ((m : ℕ) × ReadsAll t ls (went (v, claim) [] m))

@@ -1,0 +1,5 @@
+pub mod Accepting
+pub mod Descent
+pub mod Laws
+pub mod Reading
+pub mod Trees

@@ -1,0 +1,19 @@
+//! The laws: their contracts are what they say, and their bodies are empty.
+
+ghost use Rattle.cpt_verdict.specs.Laws.{CertificatesHold, OneOutcome, WholeLines};
+
+/// Whatever text is a certificate of a task, its claim holds: its plan is optimal with the claimed makespan, no valid
+/// plan has a makespan of at most the refuted bound, or there is no valid plan.
+pub fn certificates_hold()
+    ensures { CertificatesHold }
+{}
+
+/// The reading of lines has at most one outcome: at most one fault is the first, and lines that are read whole have none.
+pub fn one_outcome()
+    ensures { OneOutcome }
+{}
+
+/// Lines are those of a certificate exactly where they are read whole, without a fault.
+pub fn whole_lines()
+    ensures { WholeLines }
+{}

@@ -1,0 +1,9 @@
+//! What makes a text a certificate of a task, that the claim of a certificate holds, and the first fault of a text that
+//! is none.
+#![tactic(auto)]
+
+mod faults;
+mod laws;
+
+pub use faults::Why;
+pub use laws::{certificates_hold, one_outcome, whole_lines};
