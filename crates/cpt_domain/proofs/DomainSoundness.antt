@@ -28,7 +28,7 @@ use Rattle.cpt_domain.specs.declared.keys.Section.TheVariants.{Requirements, Typ
 use Rattle.cpt_domain.specs.Reading.{Part, assembled, definition, domain_in, is_seen, key_of, name_in, nothing_declared, nothing_read, part_by, part_in, parts_in, section_in, with_action, with_declared, with_section}
 use Rattle.cpt_domain.specs.Sound.{FitTogether, Fits, IsSound}
 use Rattle.cpt_domain.specs.SoundKinds.{AreSignatures, AreTyped, IsSoundDeclared}
-use Rattle.cpt_domain.proofs.DomainNames.{DifferentPart, assembled_different, parts_different, start_different}
+use Rattle.cpt_domain.proofs.DomainNames.{NamedPart, assembled_named, parts_named, start_named}
 use Rattle.cpt_domain.proofs.KindSoundness.{SoundTypes, kinds_sound, object_sound}
 use Rattle.cpt_domain.proofs.SchemaSoundness.{SchemaOf, schema_sound}
 use Rattle.cpt_domain.proofs.SignatureSoundness.{functions_sound, no_signatures_sound, predicates_sound}
@@ -187,13 +187,15 @@ definition_sound items =
     holds_bind (λ _. Unit {0}) IsSound (after_word (codes "define") items) _ (holds_any (after_word (codes "define") items))
     (λ rest _. holds_bind (λ _. Unit {0}) IsSound (group_at rest) _ (holds_any (group_at rest))
     (λ head _. holds_bind (λ _. Unit {0}) IsSound (name_in head.1) _ (holds_any (name_in head.1))
-    (λ name _. holds_bind (λ (whole : Part). SoundPart whole × DifferentPart whole) IsSound (parts_in nothing_read head.2) (λ whole. Ok (assembled name whole))
-    (holds_both SoundPart DifferentPart (parts_in nothing_read head.2) (parts_sound nothing_read head.2 start_sound) (parts_different nothing_read head.2 start_different))
+    (λ name _. holds_bind (λ (whole : Part). SoundPart whole × NamedPart whole) IsSound (parts_in nothing_read head.2) (λ whole. Ok (assembled name whole))
+    (holds_both SoundPart NamedPart (parts_in nothing_read head.2) (parts_sound nothing_read head.2 start_sound) (parts_named nothing_read head.2 start_named))
     (λ whole k.
     let h = k.0.declared in
+    let named = assembled_named name whole h.types.lengths h.constants.lengths h.predicates.lengths h.functions.lengths k.1 in
     record {
       fit = assembled_sound name whole k.0;
-      names = assembled_different name whole h.types.lengths h.constants.lengths h.predicates.lengths h.functions.lengths k.1;
+      names = named.0;
+      words = named.1;
     }))))
 
 domain_sound : (items : Items) → Holds IsSound (domain_in items)

@@ -6,7 +6,7 @@ use Rattle.cpt_domain.specs.declared.domain.ObjectDecl.{ObjectDecl}
 use Rattle.cpt_domain.specs.declared.domain.Predicate.{Predicate}
 use Rattle.cpt_domain.specs.declared.domain.TypeDecl.{TypeDecl}
 use Rattle.cpt_domain.specs.SoundKinds.{AreBelow, AreKinds, AreVariables}
-use Rattle.cpt_domain.specs.SoundNames.{HasDifferentNames}
+use Rattle.cpt_domain.specs.SoundNames.{HasDifferentNames, HasWordNames}
 use Rattle.cpt_domain.specs.SoundSchemas.{IsSoundSchema}
 
 -- So many types and constants, the parents of the types and the types of the constants, the variables of predicates
@@ -33,7 +33,8 @@ Fits d =
     FitTogether (length d.types) (length d.constants) (map (λ (t : TypeDecl). t.parent) d.types) (map (λ (o : ObjectDecl). o.kind) d.constants)
     (predicate_kinds d) (function_kinds d) d.schemas
 
--- the domain is sound: its parts fit together, and the names of each kind are different words
+-- the domain is sound: its parts fit together, and the names of each kind are different and words
 pub record IsSound (d : Domain) : Type 0 where
   pub fit : Fits d
   pub names : HasDifferentNames d
+  pub words : HasWordNames d

@@ -1,4 +1,5 @@
-use Rattle.std.specs.Prelude.{◌≢◌, ℕ, ◌<◌, map, List, [], length, slice_index_or}
+use Rattle.std.specs.Prelude.{◌≡◌, ◌≢◌, ℕ, ◌<◌, true, map, List, [], length, slice_index_or, All, codes}
+use Rattle.cpt_pddl.specs.Words.{is_word}
 use Rattle.cpt_schema.specs.declared.schemas.Schema.{Schema}
 use Rattle.cpt_domain.specs.declared.domain.Domain.{Domain}
 use Rattle.cpt_domain.specs.declared.domain.Function.{Function}
@@ -17,3 +18,16 @@ pub record HasDifferentNames (d : Domain) : Type 0 where
   pub predicates : AreDifferent (map (λ (p : Predicate). p.name) d.predicates)
   pub functions : AreDifferent (map (λ (f : Function). f.name) d.functions)
   pub actions : AreDifferent (map (λ (s : Schema). s.name) d.schemas)
+
+-- each of these names is a word
+abbrev pub AreWords : List (List ℕ) → Type 0
+AreWords names = All (λ name. is_word name ≡ true) names
+
+-- the names of each kind are words, and no predicate has the name of the word that makes a condition absent
+pub record HasWordNames (d : Domain) : Type 0 where
+  pub types : AreWords (map (λ (t : TypeDecl). t.name) d.types)
+  pub constants : AreWords (map (λ (o : ObjectDecl). o.name) d.constants)
+  pub predicates : AreWords (map (λ (p : Predicate). p.name) d.predicates)
+  pub functions : AreWords (map (λ (f : Function). f.name) d.functions)
+  pub actions : AreWords (map (λ (s : Schema). s.name) d.schemas)
+  pub no_not : All (λ name. name ≢ codes "not") (map (λ (p : Predicate). p.name) d.predicates)

@@ -1,4 +1,5 @@
-use Rattle.std.specs.Prelude.{◌≡◌, ◌≢◌, ℕ, ◌<◌, ◌≤◌, ◌++◌, List, [], length, map, All, Contains, slice_index_or}
+use Rattle.std.specs.Prelude.{◌≡◌, ◌≢◌, ℕ, ◌<◌, ◌≤◌, ◌++◌, true, List, [], length, map, All, Contains, slice_index_or}
+use Rattle.cpt_pddl.specs.Words.{is_word}
 use Rattle.cpt_schema.specs.declared.durations.Lasting.{Lasting}
 use Rattle.cpt_schema.specs.declared.durations.Lasting.TheVariants.{Fixed, Value}
 use Rattle.cpt_schema.specs.declared.schemas.Schema.{Schema}
@@ -72,6 +73,10 @@ object_names d p = map (λ (o : ObjectDecl). o.name) (objects_of d p)
 abbrev pub AreDifferent : List (List ℕ) → Type 0
 AreDifferent names = (i j : ℕ) → i < j → j < length names → slice_index_or names i [] ≢ slice_index_or names j []
 
+-- words
+abbrev pub AreWords : List (List ℕ) → Type 0
+AreWords names = All (λ name. is_word name ≡ true) names
+
 -- a problem fits a sound domain
 pub record Fits (d : Domain) (p : Problem) : Type 0 where
   pub kinds : All (λ (o : ObjectDecl). o.kind < length d.types) p.objects
@@ -81,6 +86,7 @@ pub record Fits (d : Domain) (p : Problem) : Type 0 where
   pub values : All (ValueFits d p) p.values
   pub single : AreSingle p
   pub names : AreDifferent (object_names d p)
+  pub words : AreWords (object_names d p)
   pub few_objects : length (objects_of d p) ≤ 4096
   pub few_init : length p.init < 16777216
   pub few_goal : length p.goal < 16777216

@@ -1,3 +1,4 @@
 mod CursorLemmas
 mod KindLemmas
 mod NumberLemmas
+pub mod WordLemmas

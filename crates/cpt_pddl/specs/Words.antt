@@ -3,14 +3,20 @@ use Rattle.std.specs.List.{list_all}
 use Rattle.std.specs.Str.{bytes_eq}
 use Rattle.std.specs.Str.Parse.{digits_value}
 use Rattle.cpt_line.specs.Digits.{digit_count}
+use Rattle.cpt_line.specs.Names.{word_byte}
 use Rattle.cpt_pddl.specs.declared.fault.Feature.TheVariants as features
 use Rattle.cpt_pddl.specs.declared.words.Head.{Head}
 use Rattle.cpt_pddl.specs.declared.words.Head.TheVariants.{And, Not, Equal, At, Over, Untaken, Numeric, Other}
 
--- a name begins with a letter
+-- a word: at least one byte, each a byte of words
+abbrev pub is_word : List ℕ → Bool
+is_word [] = false
+is_word (b ∷ bs) = word_byte b && list_all word_byte bs
+
+-- a name is a word that begins with a letter
 abbrev pub is_name : List ℕ → Bool
 is_name [] = false
-is_name (b ∷ bs) = nat_le 97 b && nat_le b 122
+is_name (b ∷ bs) = nat_le 97 b && nat_le b 122 && list_all word_byte bs
 
 -- a variable is a question mark and at least one more byte
 abbrev pub is_variable : List ℕ → Bool

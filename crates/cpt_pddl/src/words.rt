@@ -5,6 +5,7 @@ ghost use Rattle.std.specs.List.{list_all};
 ghost use Rattle.std.specs.Char.{IsAsciiDigit};
 ghost use Rattle.std.specs.Str.{bytes_eq};
 ghost use Rattle.std.specs.Str.Parse.{digits_value};
+ghost use Rattle.cpt_line.specs.Names.{word_byte};
 ghost use Rattle.cpt_pddl.specs.Words.{head_of, is_fraction, is_name, is_numeric, is_variable, number_in};
 
 use crate::fault::Feature;
@@ -38,13 +39,26 @@ pub fn is_word(bytes: &[u8], word: &str) -> bool
     bytes == word.as_bytes()
 }
 
-/// Whether the word is a name: it begins with a letter.
+/// Whether words have the byte: it is printable, no upper-case letter, no parenthesis and no semicolon.
+fn is_word_byte(b: u8) -> bool
+    ensures { result ≡ word_byte b }
+{
+    (b'!'..=b'~').contains(&b) && !b.is_ascii_uppercase() && b != b'(' && b != b')' && b != b';'
+}
+
+fn all_of_words(bytes: &[u8]) -> bool
+    ensures { result ≡ list_all word_byte bytes.now }
+{
+    bytes.iter().all(|b| is_word_byte(*b))
+}
+
+/// Whether the word is a name: it begins with a letter, and the rest are bytes of words.
 pub fn is_name(bytes: &[u8]) -> bool
     ensures { result ≡ is_name bytes.now }
 {
     match bytes {
         [] => false,
-        [b, ..] => *b >= b'a' && *b <= b'z',
+        [b, rest @ ..] => *b >= b'a' && *b <= b'z' && all_of_words(rest),
     }
 }
 

@@ -28,7 +28,7 @@ use Rattle.cpt_domain.specs.Sound.{IsSound}
 use Rattle.cpt_facts.specs.declared.problem.Fact.{Fact}
 use Rattle.cpt_facts.specs.declared.problem.Valued.{Valued}
 use Rattle.cpt_facts.specs.declared.problem.Problem.{Problem}
-use Rattle.cpt_facts.specs.Fitting.{AreDifferent, FactFits, Fits, IsDurationFunction, Names, ValueFits, no_function, no_predicate, objects_of}
+use Rattle.cpt_facts.specs.Fitting.{AreDifferent, AreWords, FactFits, Fits, IsDurationFunction, Names, ValueFits, no_function, no_predicate, objects_of}
 use Rattle.cpt_facts.specs.Fitting as fitting
 use Rattle.cpt_problem.specs.declared.error.ProblemError.{ProblemError}
 use Rattle.cpt_problem.specs.Errors.{Answers, of_problem}
@@ -142,6 +142,7 @@ fits_whole d c many b a few h i j =
       values = All-weaker (IsGiven (length c.constants.names) d.schemas c.functions) (ValueFits d p) (value_fits d c p h refl) b.values i.values;
       single = i.apart;
       names = subst AreDifferent (sym is) h.typed.grown.different;
+      words = subst AreWords (sym is) h.typed.grown.words;
       few_objects = omega (arith, count);
       few_init = (let e : length b.facts ≤ many = i.few_facts in omega arith);
       few_goal = (let e : length a.present ≤ many = j.few_present in omega arith);
@@ -174,6 +175,7 @@ sound_grown d h =
       front = take-length (object_names d.constants);
       long = omega arith;
       different = h.names.constants;
+      words = h.words.constants;
       few = omega (arith, e);
       kinds = subst (λ n. All (λ k. k < n) (object_kinds d.constants)) (sym t) h.fit.constants;
       shorter = omega (arith, e, f);

@@ -5,7 +5,7 @@ use Rattle.std.proofs.lemmas.Bool.Decides.{nat_tests, not_from_Decides}
 use Rattle.std.proofs.lemmas.Slice.Eq.{bytes_eq-Decides}
 use Rattle.std.proofs.lemmas.List.{get_or_append_left, take-append-le, length-replicate}
 use Rattle.std.proofs.Math.Seq.{get_or-append_seam}
-use Rattle.std.proofs.lemmas.List.Elements.{All-append, All-replicate}
+use Rattle.std.proofs.lemmas.List.Elements.{All-append, All-cons, All-nil, All-replicate}
 use Rattle.cpt_pddl.specs.declared.fault.Fault.{Fault}
 use Rattle.cpt_pddl.specs.declared.fault.Fault.TheVariants as faults
 use Rattle.cpt_pddl.specs.declared.typed.Sort.TheVariants.{Objects}
@@ -15,8 +15,9 @@ use Rattle.cpt_pddl.specs.Faults.{or_fault}
 use Rattle.cpt_pddl.specs.Items.{Items, end, word, group}
 use Rattle.cpt_pddl.specs.Names.{place_from, place_in}
 use Rattle.cpt_pddl.specs.Typed.{Run, dashed, declared, finished, named, padded, taken, type_word, typed_as, typed_list, typed_rest}
-use Rattle.cpt_pddl.specs.Words.{is_name}
-use Rattle.cpt_facts.specs.Fitting.{AreDifferent}
+use Rattle.cpt_pddl.specs.Words.{is_name, is_word}
+use Rattle.cpt_pddl.proofs.WordLemmas.{name_word}
+use Rattle.cpt_facts.specs.Fitting.{AreDifferent, AreWords}
 use Rattle.cpt_problem.proofs.Steps.{if_ok, ok_then, or_ok}
 use Rattle.cpt_problem.proofs.ObjectLemmas.{place_in_below}
 
@@ -58,6 +59,7 @@ pub record IsGrown (types : List (List ℕ)) (known names : List (List ℕ)) (ks
   pub front : take (length known) names ≡ known
   pub long : length known ≤ length names
   pub different : AreDifferent names
+  pub words : AreWords names
   pub few : length names ≤ 4096
   pub kinds : All (λ k. k < length types) ks
   pub shorter : length ks ≤ length names
@@ -67,9 +69,10 @@ grown_name : (types known names : List (List ℕ)) (kinds : List ℕ) (at : ℕ)
 unfolding declared
 grown_name types known names kinds at bytes h =
     let P = λ (more : List (List ℕ)). IsGrown types known more kinds in
+    let IsWord : List ℕ → Type 0 = λ name. is_word name ≡ true in
     let last = if nat_le 4096 (length names) then Err (faults.Limit limits.Objects at) else Ok (names ++ bytes ∷ []) in
     if_ok (is_name bytes) (if is_some (place_in names bytes) then Err (faults.Twice at) else last) (Err (faults.Shape at)) P
-    (λ _. if_ok (is_some (place_in names bytes)) (Err (faults.Twice at)) last P (λ _. tt)
+    (λ is. if_ok (is_some (place_in names bytes)) (Err (faults.Twice at)) last P (λ _. tt)
     (λ free. if_ok (nat_le 4096 (length names)) (Err (faults.Limit limits.Objects at)) (Ok (names ++ bytes ∷ [])) P (λ _. tt)
     (λ e. let room : length names < 4096 = grind (arith, nat_tests) in
     let long : length known ≤ length names = h.long in
@@ -78,6 +81,7 @@ grown_name types known names kinds at bytes h =
       front = take-append-le (length known) names (bytes ∷ []) long ∙ h.front;
       long = omega (arith, length-append names (bytes ∷ []));
       different = different_more names bytes h.different free;
+      words = All-append IsWord names (bytes ∷ []) h.words (All-cons IsWord bytes [] (name_word bytes is) (All-nil IsWord));
       few = omega (arith, length-append names (bytes ∷ []));
       kinds = h.kinds;
       shorter = omega (arith, length-append names (bytes ∷ []));
@@ -95,6 +99,7 @@ grown_padded types known names kinds kind k h =
         front = h.front;
         long = h.long;
         different = h.different;
+        words = h.words;
         few = h.few;
         kinds = All-append P kinds (replicate (length names - length kinds) kind) h.kinds (All-replicate P (length names - length kinds) kind k);
         shorter = omega arith;
