@@ -1,8 +1,13 @@
 //! The ground task of a domain and a problem, and laws of it.
 #![tactic(auto)]
 
+mod atoms;
+mod compile;
 mod grounding;
 mod laws;
+mod literal_names;
+mod literals;
+mod numbering;
 mod signed;
 
 pub use cpt_instance::GroundError;
