@@ -2,6 +2,7 @@ pub mod Cutting
 pub mod Joining
 pub mod LineAgain
 pub mod LineRead
+pub mod Meaning
 pub mod Numerals
 pub mod Parts
 pub mod RowRead

@@ -226,6 +226,7 @@ version_some ws v e =
   where
     none_some : let o : Option Version = None in o ≡ Some v → ⊥
     none_some e = cc
+
     word : (w : List ℕ) → cond (bytes_eq w (codes "1")) (Some One) (cond (bytes_eq w (codes "2")) (Some Two) None) ≡ Some v → w ≡ version_word v
     word w e =
         elim (pick (bytes_eq w (codes "1")) (Some One) (cond (bytes_eq w (codes "2")) (Some Two) None) v e) [

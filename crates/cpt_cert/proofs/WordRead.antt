@@ -47,14 +47,15 @@ span_some w v e =
     elim (pick (bytes_eq w (codes "never")) (Some Never) (option_map At (number_in w)) v e) [
       | inl h ↦ never v (some_is Never v h.1) (eq_bytes w (codes "never") h.0)
       | inr h ↦
-        let m = map_some At (number_in w) v h.1 in
-        let s = number_some w m.0 m.1 in
-        finite v m.0 m.2 s.0 s.1
+          let m = map_some At (number_in w) v h.1 in
+          let s = number_some w m.0 m.1 in
+          finite v m.0 m.2 s.0 s.1
     ]
   where
     never : (v : Span) → Never ≡ v → w ≡ codes "never" → IsShortSpan v × (w ≡ span_word v)
     never Never e h = (tt, h)
     never (At n) e h = absurd cc
+
     finite : (v : Span) (n : ℕ) → v ≡ At n → IsShort n → w ≡ decimal n → IsShortSpan v × (w ≡ span_word v)
     finite Never n e h k = absurd cc
     finite (At m) n e h k = let same : m ≡ n = cc in (omega (arith, same, h), k ∙ ap decimal (sym same))
@@ -87,16 +88,16 @@ cand_some [] c e = absurd cc
 cand_some (b ∷ bs) c e =
     elim (pick (eqb b 116) (option_map Tok (id_in bs)) (cond (eqb b 111) (option_map Out (id_in bs)) None) c e) [
       | inl h ↦
-        let m = map_some Tok (id_in bs) c h.1 in
-        let s = id_some bs m.0 m.1 in
-        let k : b ≡ 116 = eqb-true b 116 h.0 in
-        (Tok s.0, s.1, ap (λ x. x ∷ bs) k ∙ ap (λ (x : List ℕ). 116 ∷ x) s.2, m.2 ∙ ap Tok s.3)
+          let m = map_some Tok (id_in bs) c h.1 in
+          let s = id_some bs m.0 m.1 in
+          let k : b ≡ 116 = eqb-true b 116 h.0 in
+          (Tok s.0, s.1, ap (λ x. x ∷ bs) k ∙ ap (λ (x : List ℕ). 116 ∷ x) s.2, m.2 ∙ ap Tok s.3)
       | inr h ↦ elim (pick (eqb b 111) (option_map Out (id_in bs)) None c h.1) [
         | inl h ↦
-          let m = map_some Out (id_in bs) c h.1 in
-          let s = id_some bs m.0 m.1 in
-          let k : b ≡ 111 = eqb-true b 111 h.0 in
-          (Out s.0, s.1, ap (λ x. x ∷ bs) k ∙ ap (λ (x : List ℕ). 111 ∷ x) s.2, m.2 ∙ ap Out s.3)
+            let m = map_some Out (id_in bs) c h.1 in
+            let s = id_some bs m.0 m.1 in
+            let k : b ≡ 111 = eqb-true b 111 h.0 in
+            (Out s.0, s.1, ap (λ x. x ∷ bs) k ∙ ap (λ (x : List ℕ). 111 ∷ x) s.2, m.2 ∙ ap Out s.3)
         | inr h ↦ absurd (none_some h.1)
       ]
     ]
@@ -115,9 +116,9 @@ out_some [] a e = absurd cc
 out_some (b ∷ bs) a e =
     elim (pick (eqb b 111) (id_in bs) None a e) [
       | inl h ↦
-        let s = id_some bs a h.1 in
-        let k : b ≡ 111 = eqb-true b 111 h.0 in
-        (s.0, s.1, ap (λ x. x ∷ bs) k ∙ ap (λ (x : List ℕ). 111 ∷ x) s.2, s.3)
+          let s = id_some bs a h.1 in
+          let k : b ≡ 111 = eqb-true b 111 h.0 in
+          (s.0, s.1, ap (λ x. x ∷ bs) k ∙ ap (λ (x : List ℕ). 111 ∷ x) s.2, s.3)
       | inr h ↦ absurd (none_some h.1)
     ]
   where

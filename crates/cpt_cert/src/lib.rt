@@ -2,6 +2,7 @@
 #![tactic(auto)]
 
 mod forms;
+mod laws;
 mod nodes;
 mod reading;
 mod rows;
@@ -9,3 +10,5 @@ mod steps;
 mod words;
 
 pub use forms::{Cert, CertLine, Claim, Run, Version};
+pub use laws::one_reading;
+pub use reading::read_line;

@@ -2,6 +2,7 @@
 
 ghost use Rattle.std.specs.Prelude.{◌≡◌, Ok, map, option_map, unwrap_or, length, IfOk};
 ghost use Rattle.cpt_cert.specs.declared.forms.CertLine.TheVariants.{Strange};
+ghost use Rattle.cpt_cert.specs.Forms.{IsReadAs};
 ghost use Rattle.cpt_cert.specs.Reading.{words_in, two_numbers_in, alone_number_in, alone_limited_in, version_in, spent_in, claim_in, numbered_in, worded_in, named_in, line_in};
 
 use crate::forms::{CertLine, Claim, Version};
@@ -166,4 +167,16 @@ fn line_of(alloc: Global, words: &[&[u8]]) -> Result<Option<CertLine>, Memory>
         Some(first) => Ok(numbered(first, rest)),
         None => named(alloc, head, rest),
     }
+}
+
+/// What the bytes of a line, without its line feed, are read as.
+pub fn read_line(alloc: Global, bytes: &[u8]) -> Result<CertLine, Memory>
+    ensures { IfOk result (λ line. IsReadAs bytes.now line) }
+{
+    if bytes.len() > 65_536 {
+        return Ok(CertLine::Strange);
+    }
+    let words = words_of(alloc, bytes)?;
+    let line = line_of(alloc, &words)?;
+    Ok(line.unwrap_or(CertLine::Strange))
 }
