@@ -1,7 +1,10 @@
 pub mod Back
 pub mod OneOutcome
 pub mod OneReading
+pub mod OneText
+pub mod Ranges
 pub mod Rows
 pub mod SameTables
+pub mod TextLines
 pub mod Truth
 pub mod Whole

@@ -11,10 +11,11 @@ use Rattle.cpt_cert.specs.declared.forms.CertLine.{CertLine}
 use Rattle.cpt_cert.specs.declared.forms.CertLine.TheVariants as lines
 use Rattle.cpt_cert.specs.declared.forms.Run.{Run}
 use Rattle.cpt_cert.specs.Text.{Parts, cert_lines}
-use Rattle.cpt_verdict.specs.Accepting.{IsInOrder, Proves, IsCertificate}
+use Rattle.cpt_verdict.specs.Accepting.{IsInOrder, Proves, IsCertificate, Accepts}
 use Rattle.cpt_verdict.specs.Reading.{Outcome}
 use Rattle.cpt_verdict.specs.Reading.Outcome.{went}
 use Rattle.cpt_verdict.specs.Descent.{ReadsAll}
+use Rattle.cpt_verdict.specs.Texts.{AreLinesOf}
 
 -- what a claim says of a task, where it comes with a plan
 abbrev pub HoldsOf : TaskShape → Claim → List Occ → Type 0
@@ -59,3 +60,8 @@ pub record IsMadeOf (t : TaskShape) (v : Version) (claim : Claim) (ls : List Cer
 abbrev pub WholeLines : Type 0
 WholeLines =
     (t : TaskShape) (v : Version) (claim : Claim) (ls : List CertLine) → AllFilled ls → ((c : Parts) × IsMadeOf t v claim ls c) ↔ ((m : ℕ) × ReadsAll t ls (went (v, claim) [] m))
+
+-- a text whose lines are read whole is a certificate
+abbrev pub WholeTexts : Type 0
+WholeTexts =
+    (t : TaskShape) (text : List ℕ) (ls : List CertLine) (v : Version) (claim : Claim) (m : ℕ) → InBounds t → AreLinesOf text ls → ReadsAll t ls (went (v, claim) [] m) → Accepts t text v claim

@@ -2,4 +2,5 @@ pub mod Accepting
 pub mod Descent
 pub mod Laws
 pub mod Reading
+pub mod Texts
 pub mod Trees

@@ -1,6 +1,6 @@
 //! The laws: their contracts are what they say, and their bodies are empty.
 
-ghost use Rattle.cpt_verdict.specs.Laws.{CertificatesHold, OneOutcome, WholeLines};
+ghost use Rattle.cpt_verdict.specs.Laws.{CertificatesHold, OneOutcome, WholeLines, WholeTexts};
 
 /// Whatever text is a certificate of a task, its claim holds: its plan is optimal with the claimed makespan, no valid
 /// plan has a makespan of at most the refuted bound, or there is no valid plan.
@@ -16,4 +16,9 @@ pub fn one_outcome()
 /// Lines are those of a certificate exactly where they are read whole, without a fault.
 pub fn whole_lines()
     ensures { WholeLines }
+{}
+
+/// A text whose lines are read whole, without a fault, is a certificate of the task.
+pub fn whole_texts()
+    ensures { WholeTexts }
 {}

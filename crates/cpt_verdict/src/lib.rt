@@ -6,4 +6,4 @@ mod faults;
 mod laws;
 
 pub use faults::Why;
-pub use laws::{certificates_hold, one_outcome, whole_lines};
+pub use laws::{certificates_hold, one_outcome, whole_lines, whole_texts};

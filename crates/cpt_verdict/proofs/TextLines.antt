@@ -1,0 +1,267 @@
+-- the lines of a text are read in one way, and a text is accepted exactly where its lines are read whole
+use Rattle.std.proofs.Common.{◌≡◌, ◌≢◌, ℕ, zero, suc, ◌+◌, ◌≤◌, inl, inr, true, false, List, [], ◌∷◌, ◌++◌, length, map, All, refl, sym, ap, ◌∙◌, subst, arith, append_assoc, append-nil}
+use Rattle.std.specs.List.{flat_map, AllZip, range_with_len}
+use Rattle.std.proofs.lemmas.List.Elements.{All-head, All-tail, All-nil, All-cons, All-contains, Contains-append_right}
+use Rattle.cpt_task.specs.declared.plan.Occ.{Occ}
+use Rattle.cpt_task.specs.Shape.{TaskShape, InBounds}
+use Rattle.cpt_tables.specs.declared.tables.Tables.{Tables}
+use Rattle.cpt_tables.specs.Shapes.{PairShape}
+use Rattle.cpt_sheet.specs.declared.data.NodeLine.{NodeLine}
+use Rattle.cpt_cert.specs.declared.forms.Version.{Version}
+use Rattle.cpt_cert.specs.declared.forms.Claim.{Claim}
+use Rattle.cpt_cert.specs.declared.forms.Claim.TheVariants as claims
+use Rattle.cpt_cert.specs.declared.forms.Run.{Run}
+use Rattle.cpt_cert.specs.declared.forms.CertLine.{CertLine}
+use Rattle.cpt_cert.specs.declared.forms.CertLine.TheVariants as lines
+use Rattle.cpt_cert.specs.Forms.{spelled, capped_line, IsWritten, IsRun, IsClaim, IsReadAs}
+use Rattle.cpt_cert.specs.Lines.{HasNoEnd}
+use Rattle.cpt_cert.specs.Text.{Parts, row_runs, pair_row, dist_row, plan_lines, pair_lines, dist_lines, table_lines, tree_lines, open_lines, sections, cert_lines}
+use Rattle.cpt_verdict.specs.Accepting.{Proves, HasTables, IsClosedAt, IsInForm, Accepts}
+use Rattle.cpt_verdict.specs.Reading.Outcome.{went}
+use Rattle.cpt_verdict.specs.Descent.{ReadsAll}
+use Rattle.cpt_verdict.specs.Laws.{AreFilled, IsFilledLine, AllFilled}
+use Rattle.cpt_verdict.specs.Texts.{ended, IsSplit, unended, AreLinesOf}
+use Rattle.cpt_verdict.proofs.Back.{lines_back}
+use Rattle.cpt_verdict.proofs.Whole.{item}
+use Rattle.cpt_verdict.proofs.Ranges.{IsSmallNode, AllSmall, raw_node, kept_node, tree_small}
+
+-- two texts that go on behind a first line end are cut there alike
+cut_once : (a b x y : List ℕ) → HasNoEnd a → HasNoEnd b → a ++ 10 ∷ x ≡ b ++ 10 ∷ y → (a ≡ b) × (x ≡ y)
+cut_once [] [] x y p q e = (refl, tail_of 10 10 x y e)
+  where
+    tail_of : (c d : ℕ) (xs ys : List ℕ) → c ∷ xs ≡ d ∷ ys → xs ≡ ys
+    tail_of c d xs ys e = cc
+cut_once [] (c ∷ b) x y p q e = absurd (All-head (λ z. z ≢ 10) c b q (let k : 10 ≡ c = head_of 10 c x (b ++ 10 ∷ y) e in sym k))
+  where
+    head_of : (c d : ℕ) (xs ys : List ℕ) → c ∷ xs ≡ d ∷ ys → c ≡ d
+    head_of c d xs ys e = cc
+cut_once (c ∷ a) [] x y p q e = absurd (All-head (λ z. z ≢ 10) c a p (head_of c 10 (a ++ 10 ∷ x) y e))
+  where
+    head_of : (c d : ℕ) (xs ys : List ℕ) → c ∷ xs ≡ d ∷ ys → c ≡ d
+    head_of c d xs ys e = cc
+cut_once (c ∷ a) (d ∷ b) x y p q e =
+    let k = cut_once a b x y (All-tail (λ z. z ≢ 10) c a p) (All-tail (λ z. z ≢ 10) d b q) (tails e) in let h : c ≡ d = heads e in let j = k.0 in (cc, k.1)
+  where
+    tails : c ∷ (a ++ 10 ∷ x) ≡ d ∷ (b ++ 10 ∷ y) → a ++ 10 ∷ x ≡ b ++ 10 ∷ y
+    tails e = cc
+
+    heads : c ∷ (a ++ 10 ∷ x) ≡ d ∷ (b ++ 10 ∷ y) → c ≡ d
+    heads e = cc
+
+no_feed : (a x : List ℕ) → HasNoEnd (a ++ 10 ∷ x) → ⊥
+no_feed a x h = All-contains (λ z. z ≢ 10) (a ++ 10 ∷ x) 10 h (Contains-append_right a (10 ∷ x) 10 (0, omega arith, refl)) refl
+
+one_more : (body : List ℕ) (bodies : List (List ℕ)) (tail : List ℕ) → ended (body ∷ bodies) ++ tail ≡ body ++ 10 ∷ (ended bodies ++ tail)
+one_more body bodies tail = append_assoc (body ++ 10 ∷ []) (ended bodies) tail ∙ append_assoc body (10 ∷ []) (ended bodies ++ tail)
+
+pub split_once : (bs cs : List (List ℕ)) (x y : List ℕ) → All HasNoEnd bs → All HasNoEnd cs → HasNoEnd x → HasNoEnd y → ended bs ++ x ≡ ended cs ++ y → (bs ≡ cs) × (x ≡ y)
+split_once [] [] x y p q h k e = (refl, e)
+split_once [] (c ∷ cs) x y p q h k e = absurd (no_feed c (ended cs ++ y) (subst HasNoEnd (e ∙ one_more c cs y) h))
+split_once (b ∷ bs) [] x y p q h k e = absurd (no_feed b (ended bs ++ x) (subst HasNoEnd (sym e ∙ one_more b bs x) k))
+split_once (b ∷ bs) (c ∷ cs) x y p q h k e =
+    let first = cut_once b c (ended bs ++ x) (ended cs ++ y) (All-head HasNoEnd b bs p) (All-head HasNoEnd c cs q) (sym (one_more b bs x) ∙ e ∙ one_more c cs y) in
+    let more = split_once bs cs x y (All-tail HasNoEnd b bs p) (All-tail HasNoEnd c cs q) h k first.1 in
+    let i = first.0 in let j = more.0 in (cc, more.1)
+
+-- a line that is not strange, and whose numbers are small where it stands in a tree
+abbrev pub IsPlainLine : CertLine → Type 0
+IsPlainLine (lines.Node l) = IsSmallNode l
+IsPlainLine lines.Strange = ⊥
+IsPlainLine _ = Unit {0}
+
+abbrev pub AllPlain : List CertLine → Type 0
+AllPlain [] = Unit {0}
+AllPlain (l ∷ ls) = IsPlainLine l × AllPlain ls
+
+plain_append : (ls more : List CertLine) → AllPlain ls → AllPlain more → AllPlain (ls ++ more)
+plain_append [] more h k = k
+plain_append (l ∷ ls) more h k = (h.0, plain_append ls more h.1 k)
+
+plain_map : {X : Type 0} (f : X → CertLine) (xs : List X) → ((x : X) → IsPlainLine (f x)) → AllPlain (map f xs)
+plain_map f [] h = tt
+plain_map f (x ∷ xs) h = (h x, plain_map f xs h)
+
+plain_nodes : (f : List NodeLine) → AllSmall f → AllPlain (map (λ l. lines.Node l) f)
+plain_nodes [] h = tt
+plain_nodes (l ∷ f) h = (h.0, plain_nodes f h.1)
+
+plain_pairs : (v : Version) (h : PairShape) → AllPlain (pair_lines v h)
+plain_pairs v h = (tt, plain_map (λ p. lines.PairRow (row_runs v (pair_row h p))) (range_with_len 0 h.atoms) (λ p. tt))
+
+plain_tables : (v : Version) (b : Tables) → AllPlain (table_lines v b)
+plain_tables v b = plain_append (pair_lines v b.pairs) (dist_lines v b.dists) (plain_pairs v b.pairs) (tt, plain_map (λ a. lines.DistRow (row_runs v (dist_row b.dists a))) (range_with_len 0 b.dists.actions) (λ a. tt))
+
+plain_tree : (t : TaskShape) (v : Version) (b : Tables) (bound : ℕ) (f : List NodeLine) → InBounds t → HasTables t b → bound ≤ 1000000 → IsClosedAt t b bound f → AllPlain (table_lines v b ++ tree_lines bound f)
+plain_tree t v b bound f inside has le tree = plain_append (table_lines v b) (tree_lines bound f) (plain_tables v b) (tt, plain_nodes f (tree_small t b inside false bound f has.fits le tree))
+
+plain_plan : (plan : List Occ) → AllPlain (plan_lines plan)
+plain_plan plan = (tt, plain_map item plan (λ o. tt))
+
+plain_sections : (t : TaskShape) (v : Version) (claim : Claim) (c : Parts) → InBounds t → IsClaim claim → Proves t claim c → AllPlain (sections v claim c)
+plain_sections t v (claims.Optimal zero) c inside few good = plain_plan c.plan
+plain_sections t v (claims.Optimal (suc m)) c inside few good =
+    plain_append (plan_lines c.plan) (table_lines v c.tables ++ tree_lines m c.tree) (plain_plan c.plan) (plain_tree t v c.tables m c.tree inside good.1 (omega arith) good.2)
+plain_sections t v (claims.NoneUpTo m) c inside few good = plain_tree t v c.tables m c.tree inside good.0 few good.1
+plain_sections t v claims.Never c inside few good = plain_pairs v c.tables.pairs
+plain_sections t v (claims.Spent refuted nodes) c inside few good =
+    let le = few.0 in
+    plain_append (table_lines v c.tables) (tree_lines refuted c.tree ++ open_lines (refuted + 1) c.partial) (plain_tables v c.tables) (
+    plain_append (tree_lines refuted c.tree) (open_lines (refuted + 1) c.partial) (tt, plain_nodes c.tree (tree_small t c.tables inside false refuted c.tree good.0.fits (omega (arith, le)) good.1))
+    (tt, plain_nodes c.partial (tree_small t c.tables inside true (refuted + 1) c.partial good.0.fits (omega (arith, le)) good.2.tree))
+    )
+
+pub plain_lines : (t : TaskShape) (v : Version) (claim : Claim) (c : Parts) → InBounds t → c.claim ≡ claim → IsClaim claim → Proves t claim c → AllPlain (cert_lines v t c)
+plain_lines t v claim c inside e few good =
+    (tt, (tt, (tt, plain_append (sections v c.claim c) (lines.End ∷ []) (subst (λ z. AllPlain (sections v z c)) (sym e) (plain_sections t v claim c inside few good)) (tt, tt))))
+
+-- a plain line is given as it is
+kept_line : (l : CertLine) → IsPlainLine l → capped_line l ≡ l
+kept_line (lines.Node l) h = ap (λ z. lines.Node z) (kept_node l h)
+kept_line lines.Strange h = absurd h
+kept_line (lines.First v) h = refl
+kept_line (lines.Claimed c) h = refl
+kept_line (lines.Sizes a b) h = refl
+kept_line (lines.Plan k) h = refl
+kept_line (lines.Item a b) h = refl
+kept_line lines.Pairs h = refl
+kept_line (lines.PairRow runs) h = refl
+kept_line lines.Dists h = refl
+kept_line (lines.DistRow runs) h = refl
+kept_line (lines.Tree b) h = refl
+kept_line (lines.OpenTree b) h = refl
+kept_line lines.End h = refl
+
+pub kept_lines : (ls : List CertLine) → AllPlain ls → map capped_line ls ≡ ls
+kept_lines [] h = refl
+kept_lines (l ∷ ls) h = let a = kept_line l h.0 in let b = kept_lines ls h.1 in cc
+
+-- what is given as a plain line is that line
+raw_line : (l : CertLine) → IsPlainLine (capped_line l) → capped_line l ≡ l
+raw_line (lines.Node l) h = ap (λ z. lines.Node z) (raw_node l h)
+raw_line lines.Strange h = absurd h
+raw_line (lines.First v) h = refl
+raw_line (lines.Claimed c) h = refl
+raw_line (lines.Sizes a b) h = refl
+raw_line (lines.Plan k) h = refl
+raw_line (lines.Item a b) h = refl
+raw_line lines.Pairs h = refl
+raw_line (lines.PairRow runs) h = refl
+raw_line lines.Dists h = refl
+raw_line (lines.DistRow runs) h = refl
+raw_line (lines.Tree b) h = refl
+raw_line (lines.OpenTree b) h = refl
+raw_line lines.End h = refl
+
+-- lines that are read as plain ones are spelled so
+raw_zip : (bodies : List (List ℕ)) (read : List CertLine) → AllZip IsReadAs bodies read → AllPlain read → (bodies ≡ map spelled read) × All IsInForm read
+raw_zip [] [] h p = (refl, All-nil IsInForm)
+raw_zip [] (r ∷ read) h p = absurd h
+raw_zip (b ∷ bodies) [] h p = absurd h
+raw_zip (b ∷ bodies) (r ∷ read) h p = go (raw_zip bodies read h.1 p.1) h.0
+  where
+    go : (bodies ≡ map spelled read) × All IsInForm read → IsReadAs b r → (b ∷ bodies ≡ map spelled (r ∷ read)) × All IsInForm (r ∷ read)
+    go more (inl (l, spells, e)) =
+        let same : l ≡ r = sym (raw_line l (subst IsPlainLine e p.0)) ∙ sym e in
+        let words : b ≡ spelled r = spells.spelled ∙ ap spelled same in
+        let form : IsInForm r = subst IsInForm same (record { written = spells.written; spelled = refl; short = subst (λ z. length z ≤ 65536) spells.spelled spells.short }) in
+        let rest = more.0 in (cc, All-cons IsInForm r read form more.1)
+    go more (inr (e, none)) = absurd (subst IsPlainLine e p.0)
+
+plain_left : (ls more : List CertLine) → AllPlain (ls ++ more) → AllPlain ls × AllPlain more
+plain_left [] more h = (tt, h)
+plain_left (l ∷ ls) more h = let k = plain_left ls more h.1 in ((h.0, k.0), k.1)
+
+-- each run has a value in a row that is read
+filled_runs : (runs : List Run) → All IsRun runs → AreFilled runs
+filled_runs [] h = tt
+filled_runs (run ∷ runs) h = ((All-head IsRun run runs h).some, filled_runs runs (All-tail IsRun run runs h))
+
+filled_line : (l : CertLine) → IsWritten l → IsFilledLine (capped_line l)
+filled_line (lines.PairRow runs) h = filled_runs runs h.all
+filled_line (lines.DistRow runs) h = filled_runs runs h.all
+filled_line (lines.Node l) h = tt
+filled_line lines.Strange h = tt
+filled_line (lines.First v) h = tt
+filled_line (lines.Claimed c) h = tt
+filled_line (lines.Sizes a b) h = tt
+filled_line (lines.Plan k) h = tt
+filled_line (lines.Item a b) h = tt
+filled_line lines.Pairs h = tt
+filled_line lines.Dists h = tt
+filled_line (lines.Tree b) h = tt
+filled_line (lines.OpenTree b) h = tt
+filled_line lines.End h = tt
+
+filled_read : (b : List ℕ) (r : CertLine) → IsReadAs b r → IsFilledLine r
+filled_read b r (inl (l, spells, e)) = subst IsFilledLine (sym e) (filled_line l spells.written)
+filled_read b r (inr (e, none)) = subst IsFilledLine (sym e) tt
+
+filled_zip : (bodies : List (List ℕ)) (read : List CertLine) (tail : List ℕ) → AllZip IsReadAs bodies read → AllFilled (read ++ unended tail)
+filled_zip [] [] [] h = tt
+filled_zip [] [] (byte ∷ tail) h = (tt, tt)
+filled_zip [] (r ∷ read) tail h = absurd h
+filled_zip (b ∷ bodies) [] tail h = absurd h
+filled_zip (b ∷ bodies) (r ∷ read) tail h = (filled_read b r h.0, filled_zip bodies read tail h.1)
+
+pub filled_text : (text : List ℕ) (ls : List CertLine) → AreLinesOf text ls → AllFilled ls
+filled_text text ls h = subst AllFilled (sym h.all) (filled_zip h.bodies h.read h.tail h.each)
+
+pub ended_spelled : (ls : List CertLine) → ended (map spelled ls) ≡ flat_map (λ l. spelled l ++ 10 ∷ []) ls
+ended_spelled [] = refl
+ended_spelled (l ∷ ls) = ap (λ z. (spelled l ++ 10 ∷ []) ++ z) (ended_spelled ls)
+
+-- the plain lines of a text are its spelling
+text_of_plain : (text : List ℕ) (ls : List CertLine) → AreLinesOf text ls → AllPlain ls → (text ≡ flat_map (λ l. spelled l ++ 10 ∷ []) ls) × All IsInForm ls
+text_of_plain text ls h p = go h.tail h.split h.all
+  where
+    go : (tail : List ℕ) → IsSplit text h.bodies tail → ls ≡ h.read ++ unended tail → (text ≡ flat_map (λ l. spelled l ++ 10 ∷ []) ls) × All IsInForm ls
+    go [] split e =
+        let same : ls ≡ h.read = e ∙ append-nil h.read in
+        let k = raw_zip h.bodies h.read h.each (subst AllPlain same p) in (
+          split.whole ∙ append-nil (ended h.bodies) ∙ ap ended k.0 ∙ ended_spelled h.read ∙ ap (λ z. flat_map (λ l. spelled l ++ 10 ∷ []) z) (sym same),
+          subst (All IsInForm) (sym same) k.1,
+        )
+    go (byte ∷ tail) split e = absurd ((plain_left h.read (lines.Strange ∷ []) (subst AllPlain e p)).1.0)
+
+claim_of : (t : TaskShape) (v : Version) (claim : Claim) (m : ℕ) (ls rest : List CertLine) → ls ≡ lines.First v ∷ lines.Claimed claim ∷ rest → (text : List ℕ) → AreLinesOf text ls → IsClaim claim
+claim_of t v claim m ls rest e text h = go h.bodies h.read h.each (sym h.all ∙ e)
+  where
+    written : (b : List ℕ) → IsReadAs b (lines.Claimed claim) → IsClaim claim
+    written b (inl (l, spells, k)) = subst IsWritten (sym (raw_line l (subst IsPlainLine k tt)) ∙ sym k) spells.written
+    written b (inr (k, none)) = absurd (cc)
+
+    go : (bodies : List (List ℕ)) (read : List CertLine) → AllZip IsReadAs bodies read → read ++ unended h.tail ≡ lines.First v ∷ lines.Claimed claim ∷ rest → IsClaim claim
+    go bodies [] z k = none h.tail k
+      where
+        none : (tail : List ℕ) → unended tail ≡ lines.First v ∷ lines.Claimed claim ∷ rest → IsClaim claim
+        none [] j = absurd (cc)
+        none (byte ∷ tail) j = absurd (let q : lines.Strange ≡ lines.First v = cc in cc)
+    go bodies (r ∷ []) z k = none h.tail k
+      where
+        none : (tail : List ℕ) → r ∷ unended tail ≡ lines.First v ∷ lines.Claimed claim ∷ rest → IsClaim claim
+        none [] j = absurd (let q : [] ≡ lines.Claimed claim ∷ rest = cc in cc)
+        none (byte ∷ tail) j = absurd (let q : lines.Strange ∷ [] ≡ lines.Claimed claim ∷ rest = cc in let q' : lines.Strange ≡ lines.Claimed claim = cc in cc)
+    go [] (r ∷ s ∷ read) z k = absurd z
+    go (b ∷ []) (r ∷ s ∷ read) z k = absurd z.1
+    go (b ∷ c ∷ bodies) (r ∷ s ∷ read) z k = let q : s ≡ lines.Claimed claim = (let q' : s ∷ (read ++ unended h.tail) ≡ lines.Claimed claim ∷ rest = cc in cc) in written c (subst (IsReadAs c) q z.1.0)
+
+-- a text whose lines are read whole is a certificate
+pub whole_text : (t : TaskShape) (text : List ℕ) (ls : List CertLine) (v : Version) (claim : Claim) (rest : List CertLine) (m : ℕ) → InBounds t → AreLinesOf text ls → ReadsAll t ls (went (v, claim) rest m) → Accepts t text v claim
+whole_text t text ls v claim rest m inside of reads =
+    let made = (lines_back t v claim ls rest m (filled_text text ls of) reads).0 in
+    let c = made.0 in
+    let is = made.1 in
+    let first : ls ≡ lines.First v ∷ lines.Claimed claim ∷ lines.Sizes (length t.atoms) (length t.actions) ∷ (sections v c.claim c ++ lines.End ∷ []) =
+    is.same ∙ ap (λ z. lines.First v ∷ lines.Claimed z ∷ lines.Sizes (length t.atoms) (length t.actions) ∷ (sections v c.claim c ++ lines.End ∷ [])) is.claims in
+    let few = claim_of t v claim m ls (lines.Sizes (length t.atoms) (length t.actions) ∷ (sections v c.claim c ++ lines.End ∷ [])) first text of in
+    let plain : AllPlain ls = subst AllPlain (sym is.same) (plain_lines t v claim c inside is.claims few is.proves) in
+    let k = text_of_plain text ls of plain in (
+      c,
+      record {
+        claims = is.claims;
+        spelled = k.0 ∙ ap (λ z. flat_map (λ l. spelled l ++ 10 ∷ []) z) is.same;
+        written = subst (All IsInForm) is.same k.1;
+        ordered = is.ordered;
+        proves = is.proves;
+      },
+    )
