@@ -1,3 +1,5 @@
+mod DomainLemmas
+mod SchemaLemmas
 mod DurationLemmas
 mod EffectLemmas
 mod ConditionLemmas

@@ -1,9 +1,12 @@
-use Rattle.std.specs.Prelude.{◌≡◌, ℕ, ◌<◌, ◌≤◌, true, List, [], length, slice_index_or, All, Ok, codes}
-use Rattle.cpt_sexp.specs.Printing.{nothing, name, list}
+use Rattle.std.specs.Prelude.{◌≡◌, ℕ, ◌<◌, ◌≤◌, true, List, [], length, slice_index_or, All, Ok, None, codes}
+use Rattle.cpt_sexp.specs.Grammar.{ForestShape}
+use Rattle.cpt_sexp.specs.Printing.{nothing, name, list, nest_of}
 use Rattle.cpt_pddl.specs.declared.typed.Sort.{Sort}
 use Rattle.cpt_pddl.specs.declared.typed.Typed.{Typed}
 use Rattle.cpt_pddl.specs.Items.{Items}
+use Rattle.cpt_pddl.specs.Names.{place_in}
 use Rattle.cpt_pddl.specs.Typed.{fits_sort, most, no_names, typed_list}
+use Rattle.cpt_pddl.specs.Words.{is_name}
 use Rattle.cpt_declared.specs.declared.kinds.Kinds.{Kinds}
 use Rattle.cpt_declared.specs.declared.signatures.Signatures.{Signatures}
 use Rattle.cpt_declared.specs.Kinds.{is_rooted, kinds_in}
@@ -15,14 +18,16 @@ use Rattle.cpt_schema.specs.declared.terms.Term.{Term}
 use Rattle.cpt_schema.specs.Conditions.{condition_in}
 use Rattle.cpt_schema.specs.Durations.{duration_in}
 use Rattle.cpt_schema.specs.Effects.{Effs, timed_effect_in}
-use Rattle.cpt_schema.specs.Schemas.{lits_of, no_conds, no_effs}
+use Rattle.cpt_schema.specs.Schemas.{lits_of, no_conds, no_effs, schema_in}
 use Rattle.cpt_schema.specs.Terms.{applied}
+use Rattle.cpt_domain.specs.declared.domain.Domain.{Domain}
+use Rattle.cpt_domain.specs.Reading.{domain_of}
 use Rattle.cpt_domain.specs.SoundKinds.{AreSignatures, AreTyped}
 use Rattle.cpt_domain.specs.SoundNames.{AreDifferent}
 use Rattle.cpt_domain.specs.SoundSchemas.{IsApplied, IsLasting}
 use Rattle.cpt_domain_spelling.specs.Saying.{says}
-use Rattle.cpt_domain_spelling.specs.Spellable.{AreDistinct, AreFree, AreInOrder, AreOfTypes, HasSpelling, IsSoundOver, IsTyped, IsTypedLasting}
-use Rattle.cpt_domain_spelling.specs.Spelling.{conditions_nest, duration_nest, effects_nest, kinds_nest, named, parameters_of, signatures_nest, terms_nest, typed_nest}
+use Rattle.cpt_domain_spelling.specs.Spellable.{AreDistinct, AreFree, AreInOrder, AreOfTypes, HasSpelling, IsSoundOver, IsSpellable, IsTyped, IsTypedLasting}
+use Rattle.cpt_domain_spelling.specs.Spelling.{action_nest, conditions_nest, domain_nest, duration_nest, effects_nest, kinds_nest, named, parameters_of, signatures_nest, terms_nest, typed_nest}
 
 -- a typed list that says different names with their types, each of one of these types, is read as them
 abbrev pub TypedListsReadBack : Type 0
@@ -76,3 +81,13 @@ DurationsReadBack =
     (d : Declared) (params : List ℕ) (from : ℕ) (lasting : Lasting) (items : Items) → HasSpelling d → length params ≤ 16 →
     IsLasting (length params) (length d.constants.names) d.functions.kinds lasting → IsTypedLasting d params lasting → says items ≡ duration_nest d lasting →
     duration_in d (parameters_of params) from items ≡ Ok lasting
+
+-- an action is read as it is, where its name is new
+abbrev pub ActionsReadBack : Type 0
+ActionsReadBack =
+    (d : Declared) (s : Schema) (known : List (List ℕ)) (items : Items) → HasSpelling d → IsSoundOver d s → IsTyped d s → is_name s.name ≡ true → place_in known s.name ≡ None →
+    says items ≡ action_nest d s → schema_in true d known items ≡ Ok s
+
+-- a parsed text that says the spelling of a domain is read as this domain, wherever its words and groups stand
+abbrev pub DomainsReadBack : Type 0
+DomainsReadBack = (d : Domain) (forest : ForestShape) → IsSpellable d → nest_of forest.text forest.trees ≡ domain_nest d → domain_of forest ≡ Ok d

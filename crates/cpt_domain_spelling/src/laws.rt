@@ -1,6 +1,6 @@
 //! The laws.
 
-ghost use Rattle.cpt_domain_spelling.specs.Laws.{ConditionsReadBack, DurationsReadBack, EffectsReadBack, FunctionsReadBack, PredicatesReadBack, TermsReadBack, TypedListsReadBack, TypesReadBack};
+ghost use Rattle.cpt_domain_spelling.specs.Laws.{ActionsReadBack, ConditionsReadBack, DomainsReadBack, DurationsReadBack, EffectsReadBack, FunctionsReadBack, PredicatesReadBack, TermsReadBack, TypedListsReadBack, TypesReadBack};
 
 /// A typed list that says different names with their types is read as these names and types.
 pub fn typed_lists_read_back()
@@ -42,4 +42,14 @@ pub fn effects_read_back()
 /// A duration is read as it is: a number, or a function with its terms.
 pub fn durations_read_back()
     ensures { DurationsReadBack }
+{}
+
+/// A sound action is read as it is, where its name is new.
+pub fn actions_read_back()
+    ensures { ActionsReadBack }
+{}
+
+/// A parsed text that says the spelling of a domain is read as this domain, wherever its words and groups stand.
+pub fn domains_read_back()
+    ensures { DomainsReadBack }
 {}
