@@ -1,11 +1,12 @@
 //! What an instance does.
 
-ghost use Rattle.std.specs.Prelude.{◌≡◌, ◌++◌, ◌<◌, IfOk, All, flat_map, length};
+ghost use Rattle.std.specs.Prelude.{◌≡◌, ◌<◌, IfOk, All, length};
 ghost use Rattle.std.specs.List.{AllZip};
 ghost use Rattle.cpt_instance.specs.Durations.{HasValues};
-ghost use Rattle.cpt_instance.specs.Instances.{IsInstance, ground_atom, ground_atoms, group_of, names_of, object_at, schema_at};
+ghost use Rattle.cpt_instance.specs.Instances.{IsInstance, ground_atom, ground_atoms, group_of, names_of, schema_at};
 ghost use Rattle.cpt_ground.specs.Reading.{IsActionOf};
 
+use crate::object_names::push_names;
 use crate::signed::SignedAction;
 use cpt_domain::{Domain, Lit, Schema};
 use cpt_facts::{Fact, Problem};
@@ -33,20 +34,6 @@ fn ground_atoms(alloc: Global, args: &[u32], lits: &[Lit]) -> Result<List<Fact>,
     Ok(List::from_vec(facts))
 }
 
-fn object_name<'a>(domain: &'a Domain, problem: &'a Problem, object: u32) -> &'a [u8]
-    ensures { result.now ≡ (object_at domain.now problem.now object).name }
-{
-    let constants = domain.constants.as_slice();
-    let place = object as usize;
-    if place < constants.len() {
-        return constants[place].name.as_slice();
-    }
-    match problem.objects.as_slice().get(place - constants.len()) {
-        None => &[],
-        Some(declared) => declared.name.as_slice(),
-    }
-}
-
 fn group_name(
     alloc: Global,
     domain: &Domain,
@@ -59,10 +46,7 @@ fn group_name(
     let mut spelled = Vec::new(alloc);
     spelled.push(b'(')?;
     spelled.extend_from_slice(name)?;
-    for object in args {
-        spelled.push(b' ')?;
-        spelled.extend_from_slice(object_name(domain, problem, *object))?;
-    }
+    push_names(domain, problem, args, &mut spelled)?;
     spelled.push(b')')?;
     Ok(List::from_vec(spelled))
 }

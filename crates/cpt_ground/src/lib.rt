@@ -9,6 +9,7 @@ mod laws;
 mod literal_names;
 mod literals;
 mod numbering;
+mod object_names;
 mod reader;
 mod signed;
 
