@@ -9,7 +9,8 @@ use Rattle.cpt_facts.specs.declared.problem.Fact.{Fact}
 use Rattle.cpt_facts.specs.declared.problem.Problem.{Problem}
 use Rattle.cpt_facts.specs.declared.problem.Valued.{Valued}
 use Rattle.cpt_facts.specs.Fitting.{AreSingle, value_at, no_value}
-use Rattle.cpt_instance.specs.Instances.{Instance, AreInstances, IsListBefore, IsInstanceBefore, HasDuration, objects_for, schema_at}
+use Rattle.cpt_instance.specs.declared.instances.Instance.{Instance}
+use Rattle.cpt_instance.specs.Instances.{AreInstances, IsListBefore, IsInstanceBefore, HasDuration, objects_for, schema_at}
 use Rattle.cpt_ground.specs.Reading.{IsActionOf}
 use Rattle.cpt_ground.specs.Signed.{Signed, SignedAction}
 use Rattle.cpt_ground.specs.Laws.{OneReading}

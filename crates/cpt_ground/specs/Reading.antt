@@ -2,7 +2,8 @@ use Rattle.std.specs.Prelude.{◌≡◌, List}
 use Rattle.std.specs.List.{AllZip}
 use Rattle.cpt_domain.specs.declared.domain.Domain.{Domain}
 use Rattle.cpt_facts.specs.declared.problem.Problem.{Problem}
-use Rattle.cpt_instance.specs.Instances.{Instance, AreInstances, HasDuration, schema_at, ground_atoms, instance_name}
+use Rattle.cpt_instance.specs.declared.instances.Instance.{Instance}
+use Rattle.cpt_instance.specs.Instances.{AreInstances, HasDuration, schema_at, ground_atoms, instance_name}
 use Rattle.cpt_ground.specs.Signed.{Signed, SignedAction}
 
 -- what an instance does

@@ -1,4 +1,4 @@
-use Rattle.std.proofs.Common.{◌≡◌, ◌∙◌, List, ℕ, ap, map, min, refl, subst, sym, length, arith}
+use Rattle.std.proofs.Common.{◌≡◌, ◌∙◌, List, min, refl, subst, sym, arith}
 use Rattle.cpt_instance.specs.Instances.{AreInstances, Instance, type_correct_lists}
 use Rattle.cpt_instance.proofs.InstanceLemmas.{counted, listed}
 use Rattle.cpt_instance.proofs.listing.instances_of.Goals as goal
