@@ -9,11 +9,12 @@ use Rattle.cpt_facts.specs.declared.problem.Problem.{Problem}
 use Rattle.cpt_facts.specs.Fitting.{Fits}
 use Rattle.cpt_pddl.specs.Names.{place_from}
 use Rattle.cpt_instance.specs.Instances.{Instance, HasDuration, TestHolds, instance_name, names_of, no_schema, schema_at}
-use Rattle.cpt_instance.specs.Named.{HasWords, IsBehind, IsInside, IsNamed, IsWord, blank_at, read_args, schema_names}
+use Rattle.cpt_instance.specs.Named.{IsBehind, IsInside, IsNamed, blank_at, read_args, schema_names}
 use Rattle.cpt_instance.proofs.Reading.{ReadsArgs, args_are_read, reads_args, spaced}
-use Rattle.cpt_instance.proofs.Words.{StandsAt, blank_spaced, blank_word, place_complete, place_found}
+use Rattle.cpt_instance.proofs.Words.{IsWord, StandsAt, blank_spaced, blank_word, place_complete, place_found}
+use Rattle.cpt_instance.proofs.WordNames.{HasWords}
 
-behind_is_read : (d : Domain) (p : Problem) (k : ℕ) (text : List ℕ) (dur : ℕ) (args : List ℕ) → Fits d p → HasWords d p → IsBehind d p k text dur args
+pub behind_is_read : (d : Domain) (p : Problem) (k : ℕ) (text : List ℕ) (dur : ℕ) (args : List ℕ) → Fits d p → HasWords d p → IsBehind d p k text dur args
     → read_args d p (schema_at d k).kinds text ≡ Some args
 behind_is_read d p k text dur args fits words b =
     ap (read_args d p (schema_at d k).kinds) b.text_is ∙ args_are_read d p (schema_at d k).kinds args fits.names words.objects b.instance.typed.args
@@ -57,12 +58,12 @@ schema_name_at : (d : Domain) (k : ℕ) → slice_index_or (schema_names d) k []
 schema_name_at d k = get_or-map (λ (s : Schema). s.name) d.schemas k no_schema
 
 -- the text begins with the schema's name
-record Head (d : Domain) (p : Problem) (text : List ℕ) (i : Instance) : Type 0 where
-  front : take (blank_at text) text ≡ (schema_at d i.schema).name
-  behind : drop (blank_at text) text ≡ spaced d p i.args
-  placed : place_from (schema_names d) 0 (take (blank_at text) text) ≡ Some i.schema
+pub record Head (d : Domain) (p : Problem) (text : List ℕ) (i : Instance) : Type 0 where
+  pub front : take (blank_at text) text ≡ (schema_at d i.schema).name
+  pub behind : drop (blank_at text) text ≡ spaced d p i.args
+  pub placed : place_from (schema_names d) 0 (take (blank_at text) text) ≡ Some i.schema
 
-head_of : (d : Domain) (p : Problem) (text : List ℕ) (dur : ℕ) (i : Instance) → HasWords d p → IsInside d p text dur i → Head d p text i
+pub head_of : (d : Domain) (p : Problem) (text : List ℕ) (dur : ℕ) (i : Instance) → HasWords d p → IsInside d p text dur i → Head d p text i
 head_of d p text dur i words b =
     let known : i.schema < length (schema_names d) = subst (λ n. i.schema < n) (sym (length-map d.schemas (λ (s : Schema). s.name))) b.instance.typed.schema in
     let word : IsWord (schema_at d i.schema).name = subst IsWord (schema_name_at d i.schema) (words.schemas i.schema [] known) in
@@ -111,7 +112,7 @@ inside_schema d p text k (Some dur) words found h =
       },
     )
 
-name_split : (d : Domain) (p : Problem) (i : Instance) → instance_name d p i ≡ 40 ∷ (((schema_at d i.schema).name ++ spaced d p i.args) ++ (41 ∷ []))
+pub name_split : (d : Domain) (p : Problem) (i : Instance) → instance_name d p i ≡ 40 ∷ (((schema_at d i.schema).name ++ spaced d p i.args) ++ (41 ∷ []))
 name_split d p i = ap (λ w. 40 ∷ w) (sym (append_assoc (schema_at d i.schema).name (spaced d p i.args) (41 ∷ [])))
 
 -- without parentheses it is no instance's name

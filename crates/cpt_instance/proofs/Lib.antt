@@ -6,8 +6,11 @@ pub mod KindLemmas
 pub mod ListingLemmas
 pub mod MapLemmas
 pub mod MemberLemmas
+pub mod NameReading
 pub mod Objects
+pub mod Once
 pub mod Reading
 pub mod Steps
 pub mod ValueLemmas
+pub mod WordNames
 pub mod Words

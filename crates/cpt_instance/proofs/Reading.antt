@@ -12,8 +12,8 @@ use Rattle.cpt_facts.specs.declared.problem.Problem.{Problem}
 use Rattle.cpt_facts.specs.Fitting.{AreDifferent, object_names, objects_of}
 use Rattle.cpt_pddl.specs.Names.{place_from}
 use Rattle.cpt_instance.specs.Instances.{IsObjectOf, is_of, no_object, object_at, names_of}
-use Rattle.cpt_instance.specs.Named.{IsWord, blank_at, arg_named, read_arg, then_args, read_args}
-use Rattle.cpt_instance.proofs.Words.{blank_word, blank_spaced, StandsAt, place_found, place_complete}
+use Rattle.cpt_instance.specs.Named.{blank_at, arg_named, read_arg, then_args, read_args}
+use Rattle.cpt_instance.proofs.Words.{IsWord, blank_word, blank_spaced, StandsAt, place_found, place_complete}
 
 -- the names of these objects, a blank before each
 abbrev pub spaced : Domain → Problem → List ℕ → List ℕ

@@ -1,11 +1,15 @@
-use Rattle.std.proofs.Common.{◌≡◌, ◌≢◌, ℕ, zero, suc, ◌+◌, ◌<◌, ◌==◌, Bool, true, false, not, cond, List, [], ◌∷◌, ◌++◌, length, Some, refl, ap, ◌∙◌, arith}
+use Rattle.std.proofs.Common.{◌≡◌, ◌≢◌, ℕ, zero, suc, ◌+◌, ◌<◌, ◌==◌, Bool, true, false, not, cond, List, [], ◌∷◌, ◌++◌, length, All, Some, refl, ap, ◌∙◌, arith}
 use Rattle.std.specs.Prelude.{slice_index_or, if◌then◌else◌, flat_map}
 use Rattle.std.specs.Str.{bytes_eq}
 use Rattle.std.proofs.lemmas.Bool.Decides.{nat_tests}
 use Rattle.std.proofs.lemmas.Slice.Eq.{bytes_eq-Decides}
 use Rattle.cpt_facts.specs.Fitting.{AreDifferent}
 use Rattle.cpt_pddl.specs.Names.{place_from}
-use Rattle.cpt_instance.specs.Named.{IsWord, blank_at}
+use Rattle.cpt_instance.specs.Named.{blank_at}
+
+-- a word has no blank
+abbrev pub IsWord : List ℕ → Type 0
+IsWord word = All (λ b. b ≢ 32) word
 
 not_equal : (a b : ℕ) → a ≢ b → (a == b) ≡ false
 not_equal a b h = grind (arith, nat_tests)

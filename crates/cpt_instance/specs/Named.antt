@@ -1,29 +1,16 @@
-use Rattle.std.specs.Prelude.{◌≡◌, ◌≢◌, ℕ, ◌<◌, ◌≤◌, ◌^◌, ◌==◌, if◌then◌else◌, List, [], ◌∷◌, Option, None, Some, All, ◌++◌, flat_map, length, map, take, drop}
+use Rattle.std.specs.Prelude.{◌≡◌, ℕ, ◌==◌, if◌then◌else◌, List, [], ◌∷◌, Option, None, Some, ◌++◌, flat_map, map, take, drop}
 use Rattle.std.specs.Option.{option_map}
 use Rattle.std.specs.List.{position_or_len}
 use Rattle.cpt_pddl.specs.Names.{place_from}
 use Rattle.cpt_schema.specs.declared.schemas.Schema.{Schema}
 use Rattle.cpt_domain.specs.declared.domain.Domain.{Domain}
 use Rattle.cpt_facts.specs.declared.problem.Problem.{Problem}
-use Rattle.cpt_facts.specs.Fitting.{AreDifferent, object_names}
+use Rattle.cpt_facts.specs.Fitting.{object_names}
 use Rattle.cpt_instance.specs.Instances.{Instance, IsInstance, HasDuration, instance_name, is_of, names_of, object_at, schema_at}
-
--- a word has no blank
-abbrev pub IsWord : List ℕ → Type 0
-IsWord word = All (λ b. b ≢ 32) word
 
 -- the names of the schemas
 abbrev pub schema_names : Domain → List (List ℕ)
 schema_names d = map (λ (s : Schema). s.name) d.schemas
-
--- What is used here of a sound domain: at most 16 parameters, fewer than 2^32 schemas of different names, and names
--- that are words. The names of objects are words too.
-pub record HasWords (d : Domain) (p : Problem) : Type 0 where
-  pub parameters : All (λ (s : Schema). length s.kinds ≤ 16) d.schemas
-  pub few_schemas : length d.schemas < 2 ^ 32
-  pub schemas : All IsWord (schema_names d)
-  pub different : AreDifferent (schema_names d)
-  pub objects : All IsWord (object_names d p)
 
 -- the name is that of this instance, which has this duration
 pub record IsNamed (d : Domain) (p : Problem) (name : List ℕ) (dur : ℕ) (i : Instance) : Type 0 where

@@ -1,9 +1,6 @@
-use Rattle.cpt_instance.proofs.Answering.{not_inside, named_inside}
+use Rattle.cpt_instance.proofs.Once.{answer_is_read}
 use Rattle.cpt_instance.proofs.instance.instance_of.Goals as goal
 
-pub returns-in-None : goal.returns-in-None
-returns-in-None c = not_inside c.args.domain.now c.args.problem.now c.args.name.now c.in-None.ensures
-
-pub returns-in-Some : goal.returns-in-Some
-returns-in-Some c =
-    named_inside c.args.domain.now c.args.problem.now c.args.name.now c.in-Some.text.now c.instance_inside.result c.in-Some.ensures c.instance_inside.ensures
+pub returns-clause-read : goal.returns-clause-read
+returns-clause-read c =
+    answer_is_read c.args.domain.now c.args.problem.now c.args.name.now c.instance_named.result c.requires.sound c.requires.fits c.instance_named.ensures
