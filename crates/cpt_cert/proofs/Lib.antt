@@ -1,5 +1,6 @@
 pub mod Cutting
 pub mod Joining
+pub mod Keeping
 pub mod LineAgain
 pub mod LineRead
 pub mod Meaning

@@ -4,7 +4,7 @@ use Rattle.cpt_cert.specs.declared.forms.CertLine.{CertLine}
 use Rattle.cpt_cert.specs.Forms.{IsReadAs}
 
 -- what is kept of the bytes since the last line end: at most 65,537, which is enough to know a line that is too long
-abbrev pub kept : List ℕ → List ℕ
+unfoldable pub kept : List ℕ → List ℕ
 kept bytes = take 65537 bytes
 
 -- no line ends in these bytes

@@ -3,6 +3,7 @@
 
 mod forms;
 mod laws;
+mod lines;
 mod nodes;
 mod reading;
 mod rows;
@@ -11,4 +12,5 @@ mod words;
 
 pub use forms::{Cert, CertLine, Claim, Run, Version};
 pub use laws::one_reading;
+pub use lines::Lines;
 pub use reading::read_line;

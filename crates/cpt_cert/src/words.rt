@@ -13,6 +13,7 @@ use std::alloc::Global;
 /// What stands before and behind the first such byte.
 pub fn cut(byte: u8, bytes: &[u8]) -> Option<(&[u8], &[u8])>
     ensures exact { MatchOption result (cut byte bytes.now ≡ None) (λ p. cut byte bytes.now ≡ Some (p.0.now, p.1.now)) }
+    ensures before { IfSome result (λ p. length p.0.now < length bytes.now) }
     ensures shorter { IfSome result (λ p. length p.1.now < length bytes.now) }
 {
     for (i, b) in bytes.iter().enumerate() {
