@@ -1,5 +1,5 @@
-use Rattle.std.proofs.Common.{◌≡◌, ℕ, ◌<◌, ◌≤◌, ◌-◌, ◌++◌, ◌∷◌, [], Bool, true, false, List, length, map, All, refl, ap, ◌∙◌, sym, subst, arith}
-use Rattle.std.specs.Prelude.{Result, Ok, Err, None, codes}
+use Rattle.std.proofs.Common.{◌≡◌, ℕ, ◌-◌, ◌++◌, ◌∷◌, [], Bool, true, false, List, length, map, All, refl, ap, ◌∙◌, sym, subst, arith}
+use Rattle.std.specs.Prelude.{Result, Ok, None, codes}
 use Rattle.std.specs.List.{slice_range}
 use Rattle.std.proofs.lemmas.List.{append-nil, append_assoc, length-map}
 use Rattle.std.proofs.lemmas.List.Elements.{All-head, All-tail}
@@ -10,7 +10,7 @@ use Rattle.cpt_sexp.specs.Trees.{Trees}
 use Rattle.cpt_sexp.specs.Trees as trees
 use Rattle.cpt_pddl.specs.declared.fault.Fault.{Fault}
 use Rattle.cpt_pddl.specs.declared.typed.Sort.TheVariants.{Objects}
-use Rattle.cpt_pddl.specs.Items.{Items, end, word, group, items_of, said_by}
+use Rattle.cpt_pddl.specs.Items.{Items, items_of, said_by}
 use Rattle.cpt_pddl.specs.Names.{place_in}
 use Rattle.cpt_pddl.specs.Reading.{after_word, group_at, name_at, nothing}
 use Rattle.cpt_pddl.specs.Typed.{no_names}
@@ -29,13 +29,13 @@ use Rattle.cpt_domain.specs.declared.keys.Seen.{Seen}
 use Rattle.cpt_domain.specs.Errors.{of_domain}
 use Rattle.cpt_domain.specs.Reading.{Part, assembled, definition, domain_in, domain_of, function_list, key_of, name_in, nothing_read, object_decls, part_by, part_in, parts_in, predicate_list, type_decls, with_action, with_declared}
 use Rattle.cpt_domain.specs.Sound.{function_kinds, predicate_kinds}
-use Rattle.cpt_domain.specs.SoundKinds.{AreBelow, AreKinds, AreVariables, IsSoundDeclared}
+use Rattle.cpt_domain.specs.SoundKinds.{AreBelow, AreVariables}
 use Rattle.cpt_domain.specs.SoundNames.{AreDifferent}
 use Rattle.cpt_domain.specs.SoundSchemas.{IsSoundSchema}
 use Rattle.cpt_domain_spelling.specs.Saying.{says}
 use Rattle.cpt_domain_spelling.specs.Spellable.{AreNames, HasSpelling, IsSoundOver, IsSpellable, IsTyped}
 use Rattle.cpt_domain_spelling.specs.Spelling.{action_nest, actions_nest, declared_of, domain_nest, kinds_nest, sections_then, signatures_nest, typed_nest}
-use Rattle.cpt_domain_spelling.proofs.ItemLemmas.{bound, end_there, group_there, unless, when, word_there}
+use Rattle.cpt_domain_spelling.proofs.ItemLemmas.{bound, end_there, group_there, when, word_there}
 use Rattle.cpt_domain_spelling.proofs.KindLemmas.{kinds_back}
 use Rattle.cpt_domain_spelling.proofs.NameLemmas.{place_new}
 use Rattle.cpt_domain_spelling.proofs.SchemaLemmas.{schema_back}
@@ -141,7 +141,7 @@ abbrev acted : Bool → List Schema → Bool
 acted acting [] = acting
 acted acting (s ∷ schemas) = acted true schemas
 
-abbrev names_of : List Schema → List (List ℕ)
+abbrev pub names_of : List Schema → List (List ℕ)
 names_of schemas = map (λ (s : Schema). s.name) schemas
 
 action_back : (d : Declared) (s : Schema) (names : List (List ℕ)) (done : List Schema) (acting : Bool) (items : Items) → HasSpelling d → IsSoundOver d s → IsTyped d s → is_name s.name ≡ true
@@ -168,7 +168,7 @@ actions_back d (s ∷ schemas) done all names whole acting items h sound typed o
     (All-tail (λ n. is_name n ≡ true) s.name (names_of schemas) own) apart (e ∙ sym (append_assoc done (s ∷ []) schemas)) (f ∙ sym (append_assoc names (s.name ∷ []) (names_of schemas))) g.said)
 
 -- what is declared has a spelling, where the domain has one
-declared_spelled : (d : Domain) → IsSpellable d → HasSpelling (declared_of d)
+pub declared_spelled : (d : Domain) → IsSpellable d → HasSpelling (declared_of d)
 declared_spelled d h =
     let fit = h.sound.fit in
     let tree = fit.tree in
@@ -205,7 +205,7 @@ declared_spelled d h =
       functions = record { names = h.functions; different = h.sound.names.functions };
     }
 
-actions_sound : (d : Domain) → IsSpellable d → All (IsSoundOver (declared_of d)) d.schemas
+pub actions_sound : (d : Domain) → IsSpellable d → All (IsSoundOver (declared_of d)) d.schemas
 actions_sound d h =
     let types : length d.types ≡ length (map (λ (t : TypeDecl). t.name) d.types) = sym (length-map d.types (λ (t : TypeDecl). t.name)) in
     let objects : length d.constants ≡ length (map (λ (o : ObjectDecl). o.name) d.constants) = sym (length-map d.constants (λ (o : ObjectDecl). o.name)) in

@@ -1,8 +1,8 @@
-use Rattle.std.proofs.Common.{◌≡◌, ◌≢◌, ℕ, zero, suc, ◌+◌, ◌<◌, ◌≤◌, ◌++◌, ◌∷◌, [], Bool, true, false, List, length, drop, set, refl, ap, ◌∙◌, sym, subst, arith}
-use Rattle.std.specs.Prelude.{slice_index, slice_index_or, Result, Ok, Err, Option, None, Some, codes}
+use Rattle.std.proofs.Common.{◌≡◌, ◌≢◌, ℕ, zero, suc, ◌+◌, ◌<◌, ◌++◌, ◌∷◌, [], Bool, true, false, List, length, drop, refl, ap, ◌∙◌, sym, subst, arith}
+use Rattle.std.specs.Prelude.{slice_index, Ok, None, Some, codes}
 use Rattle.std.proofs.lemmas.Bool.{and_parts, eqb-true, ne_eqb}
 use Rattle.std.proofs.lemmas.List.{append-nil, append_assoc, drop_at, get_or-drop, get_or_append_left, get_or_at, length-append, length-drop, set_at}
-use Rattle.cpt_pddl.specs.Items.{Items, end, word, group}
+use Rattle.cpt_pddl.specs.Items.{Items}
 use Rattle.cpt_pddl.specs.Names.{place_in}
 use Rattle.cpt_pddl.specs.Words.{is_name}
 use Rattle.cpt_declared.specs.declared.kinds.Kinds.{Kinds}
@@ -12,7 +12,7 @@ use Rattle.cpt_domain_spelling.specs.Saying.{says}
 use Rattle.cpt_domain_spelling.specs.Spellable.{AreDistinct, AreInOrder}
 use Rattle.cpt_domain_spelling.specs.Spelling.{kinds_nest, named, typed_nest}
 use Rattle.cpt_domain_spelling.proofs.ItemLemmas.{bound, end_there, unless, when, word_there}
-use Rattle.cpt_domain_spelling.proofs.NameLemmas.{different_front, name_other, other_bytes, place_new, place_there, same_bytes}
+use Rattle.cpt_domain_spelling.proofs.NameLemmas.{different_front, name_other, other_bytes, place_new, place_there}
 
 -- a list of types that is being read, and one that was read
 abbrev reading : List (List ℕ) → List ℕ → List ℕ → ℕ → Bool → KindRun

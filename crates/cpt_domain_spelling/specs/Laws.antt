@@ -2,7 +2,6 @@ use Rattle.std.specs.Prelude.{◌≡◌, ℕ, ◌<◌, ◌≤◌, true, List, []
 use Rattle.cpt_sexp.specs.Grammar.{ForestShape}
 use Rattle.cpt_sexp.specs.Printing.{nothing, name, list, nest_of}
 use Rattle.cpt_pddl.specs.declared.typed.Sort.{Sort}
-use Rattle.cpt_pddl.specs.declared.typed.Typed.{Typed}
 use Rattle.cpt_pddl.specs.Items.{Items}
 use Rattle.cpt_pddl.specs.Names.{place_in}
 use Rattle.cpt_pddl.specs.Typed.{fits_sort, most, no_names, typed_list}

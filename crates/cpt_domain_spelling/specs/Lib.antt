@@ -2,3 +2,4 @@ pub mod Laws
 pub mod Saying
 pub mod Spellable
 pub mod Spelling
+pub mod Texts
