@@ -21,7 +21,8 @@ use Rattle.cpt_schema.specs.Schemas.{no_conds}
 use Rattle.cpt_domain.specs.SoundSchemas.{IsTest}
 use Rattle.cpt_domain_spelling.specs.Saying.{says}
 use Rattle.cpt_domain_spelling.specs.Spellable.{HasSpelling, IsSoundOver, IsTyped, is_free}
-use Rattle.cpt_domain_spelling.specs.Spelling.{atom_nest, atoms_then, conditions_nest, equation_nest, named, parameters_of, signed_nest, term_word, tests_nest}
+use Rattle.cpt_domain_spelling.specs.Names.{named}
+use Rattle.cpt_domain_spelling.specs.Spelling.{atom_nest, atoms_then, conditions_nest, equation_nest, parameters_of, signed_nest, term_word, tests_nest}
 use Rattle.cpt_domain_spelling.proofs.ItemLemmas.{bound, end_there, group_there, word_there}
 use Rattle.cpt_domain_spelling.proofs.TermLemmas.{AtomOf, atom_back, term_back}
 

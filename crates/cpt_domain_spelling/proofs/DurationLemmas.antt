@@ -19,7 +19,8 @@ use Rattle.cpt_schema.specs.Durations.{after_this, duration_after, duration_by, 
 use Rattle.cpt_domain.specs.SoundSchemas.{IsLasting}
 use Rattle.cpt_domain_spelling.specs.Saying.{says}
 use Rattle.cpt_domain_spelling.specs.Spellable.{HasSpelling, IsTypedLasting}
-use Rattle.cpt_domain_spelling.specs.Spelling.{duration_nest, lasting_nest, named, parameters_of}
+use Rattle.cpt_domain_spelling.specs.Names.{named}
+use Rattle.cpt_domain_spelling.specs.Spelling.{duration_nest, lasting_nest, parameters_of}
 use Rattle.cpt_domain_spelling.proofs.ItemLemmas.{bound, end_there, group_there, unless, when, word_there}
 use Rattle.cpt_domain_spelling.proofs.NameLemmas.{name_other, other_bytes}
 use Rattle.cpt_domain_spelling.proofs.TermLemmas.{applied_back}

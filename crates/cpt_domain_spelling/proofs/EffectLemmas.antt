@@ -22,7 +22,8 @@ use Rattle.cpt_schema.specs.Effects.{Effs, add_atom, delete_atom, delete_group, 
 use Rattle.cpt_schema.specs.Schemas.{lits_of, no_effs}
 use Rattle.cpt_domain_spelling.specs.Saying.{says}
 use Rattle.cpt_domain_spelling.specs.Spellable.{HasSpelling, IsSoundOver, IsTyped, is_free}
-use Rattle.cpt_domain_spelling.specs.Spelling.{atom_nest, atoms_then, effects_nest, named, parameters_of, signed_nest}
+use Rattle.cpt_domain_spelling.specs.Names.{named}
+use Rattle.cpt_domain_spelling.specs.Spelling.{atom_nest, atoms_then, effects_nest, parameters_of, signed_nest}
 use Rattle.cpt_domain_spelling.proofs.ConditionLemmas.{head_and, head_not, predicate_free}
 use Rattle.cpt_domain_spelling.proofs.ItemLemmas.{bound, end_there, group_there, word_there}
 use Rattle.cpt_domain_spelling.proofs.TermLemmas.{AtomOf, atom_back}

@@ -9,7 +9,7 @@ use Rattle.cpt_line.specs.Names.{word_byte}
 use Rattle.cpt_pddl.specs.Names.{place_from, place_in}
 use Rattle.cpt_pddl.specs.Words.{is_name, is_variable}
 use Rattle.cpt_domain.specs.SoundNames.{AreDifferent}
-use Rattle.cpt_domain_spelling.specs.Spelling.{named}
+use Rattle.cpt_domain_spelling.specs.Names.{named}
 use Rattle.cpt_domain_spelling.proofs.ItemLemmas.{unless, when}
 
 pub same_bytes : (w : List ℕ) → bytes_eq w w ≡ true

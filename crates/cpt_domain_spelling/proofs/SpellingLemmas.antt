@@ -20,9 +20,12 @@ use Rattle.cpt_domain.specs.declared.domain.Domain.{Domain}
 use Rattle.cpt_domain.specs.SoundKinds.{AreBelow, AreVariables}
 use Rattle.cpt_domain.specs.SoundSchemas.{IsApplied, IsLasting, IsLit, IsTest}
 use Rattle.cpt_domain_spelling.specs.Spellable.{AreNames, HasSpelling, IsSoundOver, IsSpellable}
-use Rattle.cpt_domain_spelling.specs.Spelling.{action_nest, actions_nest, applied_nest, atoms_then, condition_nest, conditions_nest, declared_of, domain_nest, duration_nest, effect_nest, effects_nest, equation_nest, named, sections_then, signatures_nest, signed_nest, term_word, terms_nest, tests_nest, timing_nest, typed_nest, variable, variables_from, variables_nest}
+use Rattle.cpt_domain_spelling.specs.Names.{named}
+use Rattle.cpt_domain_spelling.specs.Siblings.{AreSiblings, IsArranged, Siblings, names_then, siblings_nest}
+use Rattle.cpt_domain_spelling.specs.Spelling.{action_nest, actions_nest, applied_nest, atoms_then, condition_nest, conditions_nest, declared_of, domain_nest, duration_nest, effect_nest, effects_nest, equation_nest, sections_then, signatures_nest, signed_nest, term_word, terms_nest, tests_nest, timing_nest, typed_nest, variable, variables_from, variables_nest}
 use Rattle.cpt_domain_spelling.proofs.DomainLemmas.{actions_sound, declared_spelled, names_of}
 use Rattle.cpt_domain_spelling.proofs.DurationLemmas.{numerals}
+use Rattle.cpt_domain_spelling.proofs.KindLemmas.{parent_there}
 use Rattle.cpt_domain_spelling.proofs.TermLemmas.{TermOf}
 use Rattle.cpt_domain_spelling.proofs.WrittenLemmas.{Written, digits_bytes, digits_word}
 
@@ -136,11 +139,24 @@ actions_written d (s ∷ schemas) h sound own = (
   actions_written d schemas h (All-tail (IsSoundOver d) s schemas sound) (All-tail (λ n. is_name n ≡ true) s.name (names_of schemas) own),
 )
 
-sections_written : (d : Declared) (rest : Nest) → HasSpelling d → Written 1 rest → Written 1 (sections_then d rest)
-sections_written d rest h r =
-    let words = names_words d.types.names h.types.names in (
+names_written : (depth : ℕ) (types : List (List ℕ)) (kinds : List ℕ) (rest : Nest) → AreNames types → All (λ k. k < length types) kinds → Written depth rest → Written depth (names_then types kinds rest)
+names_written depth types [] rest t below r = r
+names_written depth types (kind ∷ kinds) rest t below r =
+    (named_word types kind t (All-head (λ k. k < length types) kind kinds below), names_written depth types kinds rest t (All-tail (λ k. k < length types) kind kinds below) r)
+
+siblings_written : (depth : ℕ) (types : List (List ℕ)) (parents : List ℕ) (groups : List Siblings) → AreNames types → AreBelow (length types) parents → length parents ≡ length types
+    → All (AreSiblings parents) groups → Written depth (siblings_nest types groups)
+siblings_written depth types parents [] t below lengths h = tt
+siblings_written depth types parents (s ∷ groups) t below lengths h =
+    let own = All-head (AreSiblings parents) s groups h in
+    names_written depth types s.kinds _ t (λ i x lt. let real = (own.real i x lt).1 in omega (arith, real, lengths))
+    (refl, (named_word types s.parent t (parent_there s parents (length types) own below), siblings_written depth types parents groups t below lengths (All-tail (AreSiblings parents) s groups h)))
+
+sections_written : (d : Declared) (groups : List Siblings) (rest : Nest) → HasSpelling d → IsArranged d.types.parents groups → Written 1 rest → Written 1 (sections_then d groups rest)
+sections_written d groups rest h arranged r =
+    let tree = h.sound.types in (
       omega arith,
-      (refl, typed_written 2 d.types.names (drop 1 d.types.names) (drop 1 d.types.parents) h.types.names (All-drop (λ w. is_word w ≡ true) 1 d.types.names words) (All-drop (λ k. k < length d.types.names) 1 d.types.parents h.sound.types.below)),
+      (refl, siblings_written 2 d.types.names d.types.parents groups h.types.names tree.below tree.lengths arranged.siblings),
       (
         omega arith,
         (refl, typed_written 2 d.types.names d.constants.names d.constants.kinds h.types.names (names_words d.constants.names h.constants.names) h.sound.constants.below),
@@ -153,9 +169,9 @@ sections_written d rest h r =
     )
 
 -- the spelling of a domain is of words
-pub domain_written : (d : Domain) → IsSpellable d → Written 0 (domain_nest d)
-domain_written d h =
-    let spelled = declared_spelled d h in
-    let parts : Written 1 (sections_then (declared_of d) (actions_nest (declared_of d) d.schemas)) =
-    sections_written (declared_of d) (actions_nest (declared_of d) d.schemas) spelled (actions_written (declared_of d) d.schemas spelled (actions_sound d h) h.actions) in
+pub domain_written : (d : Domain) (groups : List Siblings) → IsSpellable d groups → Written 0 (domain_nest d groups)
+domain_written d groups h =
+    let spelled = declared_spelled d groups h in
+    let parts : Written 1 (sections_then (declared_of d) groups (actions_nest (declared_of d) d.schemas)) =
+    sections_written (declared_of d) groups (actions_nest (declared_of d) d.schemas) spelled h.arranged (actions_written (declared_of d) d.schemas spelled (actions_sound d groups h) h.actions) in
     (omega arith, (refl, (omega arith, (refl, (name_word d.name h.name, tt)), parts)), tt)

@@ -17,7 +17,8 @@ use Rattle.cpt_schema.specs.Terms.{applied, atom_in, next_term, object_at, param
 use Rattle.cpt_domain.specs.SoundSchemas.{IsApplied, IsLit, IsTerm}
 use Rattle.cpt_domain_spelling.specs.Saying.{says}
 use Rattle.cpt_domain_spelling.specs.Spellable.{AreDistinct, AreOfTypes, HasSpelling, IsTypedAtom, kind_of}
-use Rattle.cpt_domain_spelling.specs.Spelling.{named, parameters_of, term_word, terms_nest}
+use Rattle.cpt_domain_spelling.specs.Names.{named}
+use Rattle.cpt_domain_spelling.specs.Spelling.{parameters_of, term_word, terms_nest}
 use Rattle.cpt_domain_spelling.proofs.ItemLemmas.{bound, end_there, unless, when, word_there}
 use Rattle.cpt_domain_spelling.proofs.NameLemmas.{get_seam, name_no_variable, place_there}
 use Rattle.cpt_domain_spelling.proofs.VariableLemmas.{variable_is, variable_there}

@@ -9,6 +9,7 @@ use Rattle.cpt_sexp.specs.Trees.{Trees}
 use Rattle.cpt_sexp.proofs.OneReading.{no_fault, one_reading}
 use Rattle.cpt_sexp.proofs.PrintingLemmas.{printed_spelled}
 use Rattle.cpt_domain.specs.declared.domain.Domain.{Domain}
+use Rattle.cpt_domain_spelling.specs.Siblings.{Siblings}
 use Rattle.cpt_domain_spelling.specs.Spellable.{IsSpellable}
 use Rattle.cpt_domain_spelling.specs.Spelling.{domain_nest}
 use Rattle.cpt_domain_spelling.specs.Texts.{GivesBack, text_of}
@@ -25,13 +26,13 @@ only_memory text trees (Deep at) s h = absurd (no_fault text trees (Deep at) s h
 only_memory text trees Memory s h = refl
 
 -- the text of a domain, parsed, gives the domain back
-pub text_back : (d : Domain) (result : Result ForestShape SexpError) → IsSpellable d → Parses (text_of d) result → GivesBack d result
-text_back d (Ok forest) h p =
-    let written = domain_written d h in
-    let there = printed_spelled (domain_nest d) (written_printable 0 (domain_nest d) written) in
-    let trees = one_reading (text_of d) forest.trees there.0 p.0 there.1 in
-    let text = p.1 ∙ written_lower 0 (domain_nest d) written in
-    domain_back d forest h (ap (λ t. nest_of t forest.trees) text ∙ ap (nest_of (text_of d)) trees ∙ there.2)
-text_back d (Err error) h p =
-    let there = printed_spelled (domain_nest d) (written_printable 0 (domain_nest d) (domain_written d h)) in
-    only_memory (text_of d) there.0 error there.1 p
+pub text_back : (d : Domain) (groups : List Siblings) (result : Result ForestShape SexpError) → IsSpellable d groups → Parses (text_of d groups) result → GivesBack d result
+text_back d groups (Ok forest) h p =
+    let written = domain_written d groups h in
+    let there = printed_spelled (domain_nest d groups) (written_printable 0 (domain_nest d groups) written) in
+    let trees = one_reading (text_of d groups) forest.trees there.0 p.0 there.1 in
+    let text = p.1 ∙ written_lower 0 (domain_nest d groups) written in
+    domain_back d groups forest h (ap (λ t. nest_of t forest.trees) text ∙ ap (nest_of (text_of d groups)) trees ∙ there.2)
+text_back d groups (Err error) h p =
+    let there = printed_spelled (domain_nest d groups) (written_printable 0 (domain_nest d groups) (domain_written d groups h)) in
+    only_memory (text_of d groups) there.0 error there.1 p

@@ -17,7 +17,8 @@ use Rattle.cpt_domain.specs.SoundKinds.{AreBelow, AreTyped}
 use Rattle.cpt_domain.specs.SoundNames.{AreDifferent}
 use Rattle.cpt_domain_spelling.specs.Saying.{says}
 use Rattle.cpt_domain_spelling.specs.Spellable.{AreDistinct}
-use Rattle.cpt_domain_spelling.specs.Spelling.{named, typed_nest}
+use Rattle.cpt_domain_spelling.specs.Names.{named}
+use Rattle.cpt_domain_spelling.specs.Spelling.{typed_nest}
 use Rattle.cpt_domain_spelling.proofs.ItemLemmas.{bound, end_there, unless, when, word_there}
 use Rattle.cpt_domain_spelling.proofs.NameLemmas.{name_other, other_bytes, place_new, place_there, variable_other}
 
