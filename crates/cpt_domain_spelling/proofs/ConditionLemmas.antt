@@ -1,5 +1,5 @@
-use Rattle.std.proofs.Common.{◌≡◌, ℕ, ◌+◌, ◌<◌, ◌≤◌, ◌++◌, ◌∷◌, [], Bool, true, false, List, length, All, refl, ap, ◌∙◌, sym, subst, arith}
-use Rattle.std.specs.Prelude.{nat_le, Result, Ok, Err, codes}
+use Rattle.std.proofs.Common.{◌≡◌, ℕ, ◌+◌, ◌<◌, ◌≤◌, ◌++◌, ◌∷◌, [], Bool, true, false, List, length, All, refl, ap, ◌∙◌, sym, arith}
+use Rattle.std.specs.Prelude.{Result, Ok, codes}
 use Rattle.std.proofs.lemmas.Bool.{lt-leb}
 use Rattle.std.proofs.lemmas.List.{append-nil, append_assoc, length-append}
 use Rattle.std.proofs.lemmas.List.Elements.{All-head, All-tail}
@@ -9,23 +9,22 @@ use Rattle.cpt_pddl.specs.declared.fault.Fault.{Fault}
 use Rattle.cpt_pddl.specs.declared.words.Head.{Head}
 use Rattle.cpt_pddl.specs.declared.words.Head.TheVariants.{And, Not, Equal, At, Over, Untaken, Numeric, Other}
 use Rattle.cpt_pddl.specs.declared.typed.Typed.{Typed}
-use Rattle.cpt_pddl.specs.Items.{Items, end, word, group}
+use Rattle.cpt_pddl.specs.Items.{Items, end, word}
 use Rattle.cpt_pddl.specs.Reading.{group_at, nothing}
-use Rattle.cpt_pddl.specs.Words.{head_of, is_name}
+use Rattle.cpt_pddl.specs.Words.{head_of}
 use Rattle.cpt_declared.specs.declared.declared.Declared.{Declared}
 use Rattle.cpt_schema.specs.declared.conditions.Test.{Test}
 use Rattle.cpt_schema.specs.declared.schemas.Schema.{Schema}
 use Rattle.cpt_schema.specs.declared.terms.Lit.{Lit}
-use Rattle.cpt_schema.specs.declared.terms.Term.{Term}
-use Rattle.cpt_schema.specs.Conditions.{Conds, absent_atom, after_all, condition_by, condition_in, conditions_in, equation, has_group_side, is_full, negated, negated_by, negated_group, over_all, present, tagged, term_next, timed_by, timed_condition_in, two_terms}
+use Rattle.cpt_schema.specs.Conditions.{Conds, absent_atom, after_all, condition_by, condition_in, conditions_in, equation, is_full, negated, negated_by, negated_group, over_all, present, tagged, timed_by, timed_condition_in, two_terms}
 use Rattle.cpt_schema.specs.Schemas.{no_conds}
-use Rattle.cpt_domain.specs.SoundSchemas.{IsSoundSchema, IsTest}
+use Rattle.cpt_domain.specs.SoundSchemas.{IsTest}
 use Rattle.cpt_domain_spelling.specs.Saying.{says}
 use Rattle.cpt_domain_spelling.specs.Spellable.{HasSpelling, IsSoundOver, IsTyped, is_free}
-use Rattle.cpt_domain_spelling.specs.Spelling.{atom_nest, atoms_then, conditions_nest, equation_nest, named, parameters_of, signed_nest, term_word, terms_nest, tests_nest}
-use Rattle.cpt_domain_spelling.proofs.ItemLemmas.{bound, end_there, group_there, unless, when, word_there}
-use Rattle.cpt_domain_spelling.proofs.NameLemmas.{same_bytes}
-use Rattle.cpt_domain_spelling.proofs.TermLemmas.{AtomOf, TermOf, atom_back, term_back}
+use Rattle.cpt_domain_spelling.specs.Names.{named}
+use Rattle.cpt_domain_spelling.specs.Spelling.{atom_nest, atoms_then, conditions_nest, equation_nest, parameters_of, signed_nest, term_word, tests_nest}
+use Rattle.cpt_domain_spelling.proofs.ItemLemmas.{bound, end_there, group_there, word_there}
+use Rattle.cpt_domain_spelling.proofs.TermLemmas.{AtomOf, atom_back, term_back}
 
 -- the words of the language
 pub head_and : head_of (codes "and") ≡ And

@@ -1,5 +1,5 @@
-use Rattle.std.proofs.Common.{◌≡◌, ℕ, ◌<◌, ◌≤◌, ◌-◌, ◌++◌, ◌∷◌, [], Bool, true, false, List, length, map, All, refl, ap, ◌∙◌, sym, subst, arith}
-use Rattle.std.specs.Prelude.{Result, Ok, Err, None, codes}
+use Rattle.std.proofs.Common.{◌≡◌, ℕ, ◌-◌, ◌++◌, ◌∷◌, [], Bool, true, false, List, length, map, All, refl, ap, ◌∙◌, sym, subst, arith}
+use Rattle.std.specs.Prelude.{Result, Ok, None, codes}
 use Rattle.std.specs.List.{slice_range}
 use Rattle.std.proofs.lemmas.List.{append-nil, append_assoc, length-map}
 use Rattle.std.proofs.lemmas.List.Elements.{All-head, All-tail}
@@ -10,7 +10,7 @@ use Rattle.cpt_sexp.specs.Trees.{Trees}
 use Rattle.cpt_sexp.specs.Trees as trees
 use Rattle.cpt_pddl.specs.declared.fault.Fault.{Fault}
 use Rattle.cpt_pddl.specs.declared.typed.Sort.TheVariants.{Objects}
-use Rattle.cpt_pddl.specs.Items.{Items, end, word, group, items_of, said_by}
+use Rattle.cpt_pddl.specs.Items.{Items, items_of, said_by}
 use Rattle.cpt_pddl.specs.Names.{place_in}
 use Rattle.cpt_pddl.specs.Reading.{after_word, group_at, name_at, nothing}
 use Rattle.cpt_pddl.specs.Typed.{no_names}
@@ -29,13 +29,14 @@ use Rattle.cpt_domain.specs.declared.keys.Seen.{Seen}
 use Rattle.cpt_domain.specs.Errors.{of_domain}
 use Rattle.cpt_domain.specs.Reading.{Part, assembled, definition, domain_in, domain_of, function_list, key_of, name_in, nothing_read, object_decls, part_by, part_in, parts_in, predicate_list, type_decls, with_action, with_declared}
 use Rattle.cpt_domain.specs.Sound.{function_kinds, predicate_kinds}
-use Rattle.cpt_domain.specs.SoundKinds.{AreBelow, AreKinds, AreVariables, IsSoundDeclared}
+use Rattle.cpt_domain.specs.SoundKinds.{AreBelow, AreVariables}
 use Rattle.cpt_domain.specs.SoundNames.{AreDifferent}
 use Rattle.cpt_domain.specs.SoundSchemas.{IsSoundSchema}
+use Rattle.cpt_domain_spelling.specs.Siblings.{IsArranged, Siblings, siblings_nest}
 use Rattle.cpt_domain_spelling.specs.Saying.{says}
 use Rattle.cpt_domain_spelling.specs.Spellable.{AreNames, HasSpelling, IsSoundOver, IsSpellable, IsTyped}
-use Rattle.cpt_domain_spelling.specs.Spelling.{action_nest, actions_nest, declared_of, domain_nest, kinds_nest, sections_then, signatures_nest, typed_nest}
-use Rattle.cpt_domain_spelling.proofs.ItemLemmas.{bound, end_there, group_there, unless, when, word_there}
+use Rattle.cpt_domain_spelling.specs.Spelling.{action_nest, actions_nest, declared_of, domain_nest, sections_then, signatures_nest, typed_nest}
+use Rattle.cpt_domain_spelling.proofs.ItemLemmas.{bound, end_there, group_there, when, word_there}
 use Rattle.cpt_domain_spelling.proofs.KindLemmas.{kinds_back}
 use Rattle.cpt_domain_spelling.proofs.NameLemmas.{place_new}
 use Rattle.cpt_domain_spelling.proofs.SchemaLemmas.{schema_back}
@@ -89,13 +90,12 @@ behind_predicates d =
     behind (record { types = d.types; constants = d.constants; predicates = d.predicates; functions = no_signatures })
     (record { requirements = false; types = true; constants = true; predicates = true; functions = false })
 
-types_part : (d : Declared) (at : ℕ) (items : Items) → HasSpelling d → says items ≡ nest.name (codes ":types") (kinds_nest d.types) → part_in nothing_read at items ≡ Ok (behind_types d)
+types_part : (d : Declared) (groups : List Siblings) (at : ℕ) (items : Items) → HasSpelling d → IsArranged d.types.parents groups → says items ≡ nest.name (codes ":types") (siblings_nest d.types.names groups) → part_in nothing_read at items ≡ Ok (behind_types d)
 unfolding with_declared
-types_part d at items h said =
+types_part d groups at items h arranged said =
     let w = word_there items (codes ":types") _ said in
-    let tree = h.sound.types in
     ap (part_in nothing_read at) w.is ∙ ap (part_by nothing_read at w.at w.more) key_types
-    ∙ bound _ (bound _ (kinds_back at d.types w.more h.types h.order tree.rooted tree.lengths tree.some w.said) refl) refl
+    ∙ bound _ (bound _ (kinds_back at d.types groups w.more h.types h.object h.sound.types arranged w.said) refl) refl
 
 constants_part : (d : Declared) (at : ℕ) (items : Items) → HasSpelling d → says items ≡ nest.name (codes ":constants") (typed_nest d.types.names d.constants.names d.constants.kinds)
     → part_in (behind_types d) at items ≡ Ok (behind_constants d)
@@ -128,10 +128,10 @@ part_step so_far next items inner rest r said read go =
     let g = group_there items inner rest said in
     ap (parts_in so_far) g.is ∙ bound _ (read g.at g.inside g.within) (go g.more g.said)
 
-sections_back : (d : Declared) (items : Items) (rest : Nest) (r : Result Part Fault) → HasSpelling d → says items ≡ sections_then d rest
+sections_back : (d : Declared) (groups : List Siblings) (items : Items) (rest : Nest) (r : Result Part Fault) → HasSpelling d → IsArranged d.types.parents groups → says items ≡ sections_then d groups rest
     → ((more : Items) → says more ≡ rest → parts_in (part d [] [] false) more ≡ r) → parts_in nothing_read items ≡ r
-sections_back d items rest r h said go =
-    part_step nothing_read (behind_types d) items _ _ r said (λ at inside e. types_part d at inside h e)
+sections_back d groups items rest r h arranged said go =
+    part_step nothing_read (behind_types d) items _ _ r said (λ at inside e. types_part d groups at inside h arranged e)
     (λ more e. part_step (behind_types d) (behind_constants d) more _ _ r e (λ at inside f. constants_part d at inside h f)
     (λ after f. part_step (behind_constants d) (behind_predicates d) after _ _ r f (λ at inside k. predicates_part d at inside h k)
     (λ last k. part_step (behind_predicates d) (part d [] [] false) last _ _ r k (λ at inside m. functions_part d at inside h m) go)))
@@ -141,7 +141,7 @@ abbrev acted : Bool → List Schema → Bool
 acted acting [] = acting
 acted acting (s ∷ schemas) = acted true schemas
 
-abbrev names_of : List Schema → List (List ℕ)
+abbrev pub names_of : List Schema → List (List ℕ)
 names_of schemas = map (λ (s : Schema). s.name) schemas
 
 action_back : (d : Declared) (s : Schema) (names : List (List ℕ)) (done : List Schema) (acting : Bool) (items : Items) → HasSpelling d → IsSoundOver d s → IsTyped d s → is_name s.name ≡ true
@@ -168,8 +168,8 @@ actions_back d (s ∷ schemas) done all names whole acting items h sound typed o
     (All-tail (λ n. is_name n ≡ true) s.name (names_of schemas) own) apart (e ∙ sym (append_assoc done (s ∷ []) schemas)) (f ∙ sym (append_assoc names (s.name ∷ []) (names_of schemas))) g.said)
 
 -- what is declared has a spelling, where the domain has one
-declared_spelled : (d : Domain) → IsSpellable d → HasSpelling (declared_of d)
-declared_spelled d h =
+pub declared_spelled : (d : Domain) (groups : List Siblings) → IsSpellable d groups → HasSpelling (declared_of d)
+declared_spelled d groups h =
     let fit = h.sound.fit in
     let tree = fit.tree in
     let types : length d.types ≡ length (map (λ (t : TypeDecl). t.name) d.types) = sym (length-map d.types (λ (t : TypeDecl). t.name)) in
@@ -198,15 +198,15 @@ declared_spelled d h =
         };
       };
       types = record { names = h.types; different = h.sound.names.types };
-      order = h.order;
+      object = h.object;
       constants = record { names = h.constants; different = h.sound.names.constants };
       predicates = record { names = h.predicates; different = h.sound.names.predicates };
       free = h.free;
       functions = record { names = h.functions; different = h.sound.names.functions };
     }
 
-actions_sound : (d : Domain) → IsSpellable d → All (IsSoundOver (declared_of d)) d.schemas
-actions_sound d h =
+pub actions_sound : (d : Domain) (groups : List Siblings) → IsSpellable d groups → All (IsSoundOver (declared_of d)) d.schemas
+actions_sound d groups h =
     let types : length d.types ≡ length (map (λ (t : TypeDecl). t.name) d.types) = sym (length-map d.types (λ (t : TypeDecl). t.name)) in
     let objects : length d.constants ≡ length (map (λ (o : ObjectDecl). o.name) d.constants) = sym (length-map d.constants (λ (o : ObjectDecl). o.name)) in
     subst (λ n. All (IsSoundSchema n (length (map (λ (o : ObjectDecl). o.name) d.constants)) (predicate_kinds d) (function_kinds d)) d.schemas) types
@@ -239,18 +239,18 @@ whole d names acting =
     ∙ ap (λ ps. make d.types d.constants ps (function_list k.functions.names k.functions.kinds)) (predicates_whole d.predicates)
     ∙ ap (make d.types d.constants d.predicates) (functions_whole d.functions)
 
-parts_back : (d : Domain) (items : Items) → IsSpellable d → says items ≡ sections_then (declared_of d) (actions_nest (declared_of d) d.schemas)
+parts_back : (d : Domain) (groups : List Siblings) (items : Items) → IsSpellable d groups → says items ≡ sections_then (declared_of d) groups (actions_nest (declared_of d) d.schemas)
     → parts_in nothing_read items ≡ Ok (part (declared_of d) (names_of d.schemas) d.schemas (acted false d.schemas))
-parts_back d items h said =
+parts_back d groups items h said =
     let k = declared_of d in
-    let spelled = declared_spelled d h in
-    sections_back k items (actions_nest k d.schemas) _ spelled said
-    (λ more e. actions_back k d.schemas [] d.schemas [] (names_of d.schemas) false more spelled (actions_sound d h) h.typed h.actions h.sound.names.actions refl refl e)
+    let spelled = declared_spelled d groups h in
+    sections_back k groups items (actions_nest k d.schemas) _ spelled h.arranged said
+    (λ more e. actions_back k d.schemas [] d.schemas [] (names_of d.schemas) false more spelled (actions_sound d groups h) h.typed h.actions h.sound.names.actions refl refl e)
 
 -- items that say the spelling of a domain are read as the domain
-pub items_back : (d : Domain) (items : Items) → IsSpellable d → says items ≡ domain_nest d → domain_in items ≡ Ok d
+pub items_back : (d : Domain) (groups : List Siblings) (items : Items) → IsSpellable d groups → says items ≡ domain_nest d groups → domain_in items ≡ Ok d
 unfolding domain_in definition name_in
-items_back d items h said =
+items_back d groups items h said =
     let g = group_there items _ _ said in
     let w = word_there g.inside (codes "define") _ g.within in
     let head = group_there w.more _ _ w.said in
@@ -261,7 +261,7 @@ items_back d items h said =
     bound _ (ap group_at g.is)
     (bound _ (bound _ (ap (after_word (codes "define")) w.is) (bound _ (ap group_at head.is)
     (bound _ (bound _ (ap (after_word (codes "domain")) v.is) (bound _ (ap name_at n.is ∙ when _ _ h.name) (bound _ (ap nothing stop.is) refl)))
-    (bound _ (parts_back d head.more h head.said) (ap (λ x. Ok x) (whole d (names_of d.schemas) (acted false d.schemas)))))))
+    (bound _ (parts_back d groups head.more h head.said) (ap (λ x. Ok x) (whole d (names_of d.schemas) (acted false d.schemas)))))))
     (bound _ (ap nothing last.is) refl))
 
 -- what a parsed text says, by its items
@@ -272,6 +272,6 @@ says_of text close (trees.group from to inside rest) =
     ap (λ n. nest.list n (says (items_of text close rest))) (says_of text (to - 1) inside) ∙ ap (nest.list (nest_of text inside)) (says_of text close rest)
 
 -- a parsed text that says the spelling of a domain is read as the domain
-pub domain_back : (d : Domain) (forest : ForestShape) → IsSpellable d → nest_of forest.text forest.trees ≡ domain_nest d → domain_of forest ≡ Ok d
+pub domain_back : (d : Domain) (groups : List Siblings) (forest : ForestShape) → IsSpellable d groups → nest_of forest.text forest.trees ≡ domain_nest d groups → domain_of forest ≡ Ok d
 unfolding domain_of
-domain_back d forest h said = ap of_domain (items_back d (said_by forest) h (says_of forest.text (length forest.text) forest.trees ∙ said))
+domain_back d groups forest h said = ap of_domain (items_back d groups (said_by forest) h (says_of forest.text (length forest.text) forest.trees ∙ said))

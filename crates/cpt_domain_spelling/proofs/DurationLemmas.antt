@@ -1,5 +1,5 @@
-use Rattle.std.proofs.Common.{◌≡◌, ℕ, ◌+◌, ◌^◌, ◌<◌, ◌≤◌, ◌++◌, ◌∷◌, [], Bool, true, false, min, List, length, take, drop, refl, ap, ◌∙◌, sym, arith}
-use Rattle.std.specs.Prelude.{◌&&◌, ◌||◌, nat_le, Result, Ok, Err, Some, codes}
+use Rattle.std.proofs.Common.{◌≡◌, ℕ, ◌^◌, ◌<◌, ◌≤◌, ◌∷◌, [], true, false, min, List, length, refl, ap, ◌∙◌, arith}
+use Rattle.std.specs.Prelude.{nat_le, Ok, Some, codes}
 use Rattle.std.specs.Char.{is_ascii_digit}
 use Rattle.std.specs.Fmt.{decimal}
 use Rattle.std.specs.Str.{all_ascii_digits, bytes_eq}
@@ -9,9 +9,7 @@ use Rattle.std.proofs.lemmas.Fmt.{decimal_nonempty, digits_decimal, digits_value
 use Rattle.std.proofs.lemmas.List.{drop_all, take_all}
 use Rattle.std.proofs.lemmas.Str.Parse.{IsNumeralModel, numerals_by_value, tells_all_ascii_digits}
 use Rattle.cpt_line.specs.Digits.{digit_count}
-use Rattle.cpt_sexp.specs.Printing as nest
-use Rattle.cpt_pddl.specs.declared.typed.Typed.{Typed}
-use Rattle.cpt_pddl.specs.Items.{Items, end, word, group}
+use Rattle.cpt_pddl.specs.Items.{Items}
 use Rattle.cpt_pddl.specs.Reading.{nothing}
 use Rattle.cpt_pddl.specs.Words.{is_fraction, is_name, number_in}
 use Rattle.cpt_declared.specs.declared.declared.Declared.{Declared}
@@ -21,12 +19,13 @@ use Rattle.cpt_schema.specs.Durations.{after_this, duration_after, duration_by, 
 use Rattle.cpt_domain.specs.SoundSchemas.{IsLasting}
 use Rattle.cpt_domain_spelling.specs.Saying.{says}
 use Rattle.cpt_domain_spelling.specs.Spellable.{HasSpelling, IsTypedLasting}
-use Rattle.cpt_domain_spelling.specs.Spelling.{duration_nest, lasting_nest, named, parameters_of, terms_nest}
+use Rattle.cpt_domain_spelling.specs.Names.{named}
+use Rattle.cpt_domain_spelling.specs.Spelling.{duration_nest, lasting_nest, parameters_of}
 use Rattle.cpt_domain_spelling.proofs.ItemLemmas.{bound, end_there, group_there, unless, when, word_there}
 use Rattle.cpt_domain_spelling.proofs.NameLemmas.{name_other, other_bytes}
 use Rattle.cpt_domain_spelling.proofs.TermLemmas.{applied_back}
 
-numerals : IsNumeralModel (λ ds. all_ascii_digits ds ≡ true) (digits_value 10)
+pub numerals : IsNumeralModel (λ ds. all_ascii_digits ds ≡ true) (digits_value 10)
 numerals = numerals_by_value (λ ds. all_ascii_digits ds ≡ true) tells_all_ascii_digits
 
 counted : (ds : List ℕ) → all_ascii_digits ds ≡ true → digit_count ds ≡ length ds

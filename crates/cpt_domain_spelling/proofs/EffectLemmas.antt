@@ -1,5 +1,5 @@
-use Rattle.std.proofs.Common.{◌≡◌, ℕ, suc, ◌+◌, ◌<◌, ◌≤◌, ◌++◌, ◌∷◌, [], Bool, true, false, List, length, All, refl, ap, ◌∙◌, sym, arith}
-use Rattle.std.specs.Prelude.{nat_le, Result, Ok, Err, codes}
+use Rattle.std.proofs.Common.{◌≡◌, ℕ, suc, ◌<◌, ◌≤◌, ◌++◌, ◌∷◌, [], Bool, true, false, List, length, All, refl, ap, ◌∙◌, sym, arith}
+use Rattle.std.specs.Prelude.{nat_le, Result, Ok, codes}
 use Rattle.std.proofs.lemmas.Bool.{lt-leb}
 use Rattle.std.proofs.lemmas.List.{append-nil, append_assoc, length-append}
 use Rattle.std.proofs.lemmas.List.Elements.{All-head, All-tail}
@@ -9,7 +9,7 @@ use Rattle.cpt_pddl.specs.declared.fault.Fault.{Fault}
 use Rattle.cpt_pddl.specs.declared.words.Head.{Head}
 use Rattle.cpt_pddl.specs.declared.words.Head.TheVariants.{And, Not, Equal, At, Over, Untaken, Numeric, Other}
 use Rattle.cpt_pddl.specs.declared.typed.Typed.{Typed}
-use Rattle.cpt_pddl.specs.Items.{Items, end, word, group}
+use Rattle.cpt_pddl.specs.Items.{Items}
 use Rattle.cpt_pddl.specs.Reading.{group_at, nothing}
 use Rattle.cpt_pddl.specs.Words.{head_of}
 use Rattle.cpt_declared.specs.declared.declared.Declared.{Declared}
@@ -22,9 +22,10 @@ use Rattle.cpt_schema.specs.Effects.{Effs, add_atom, delete_atom, delete_group, 
 use Rattle.cpt_schema.specs.Schemas.{lits_of, no_effs}
 use Rattle.cpt_domain_spelling.specs.Saying.{says}
 use Rattle.cpt_domain_spelling.specs.Spellable.{HasSpelling, IsSoundOver, IsTyped, is_free}
-use Rattle.cpt_domain_spelling.specs.Spelling.{atom_nest, atoms_then, effects_nest, named, parameters_of, signed_nest}
+use Rattle.cpt_domain_spelling.specs.Names.{named}
+use Rattle.cpt_domain_spelling.specs.Spelling.{atom_nest, atoms_then, effects_nest, parameters_of, signed_nest}
 use Rattle.cpt_domain_spelling.proofs.ConditionLemmas.{head_and, head_not, predicate_free}
-use Rattle.cpt_domain_spelling.proofs.ItemLemmas.{bound, end_there, group_there, unless, when, word_there}
+use Rattle.cpt_domain_spelling.proofs.ItemLemmas.{bound, end_there, group_there, word_there}
 use Rattle.cpt_domain_spelling.proofs.TermLemmas.{AtomOf, atom_back}
 
 head_at : head_of (codes "at") ≡ At

@@ -1,5 +1,5 @@
 use Rattle.std.proofs.Common.{◌≡◌, ℕ, Bool, true, false, List, refl, ap, ◌∙◌}
-use Rattle.std.specs.Prelude.{if◌then◌else◌, Result, Ok, Err}
+use Rattle.std.specs.Prelude.{if◌then◌else◌, Result, Ok}
 use Rattle.cpt_sexp.specs.Printing.{Nest}
 use Rattle.cpt_sexp.specs.Printing as nest
 use Rattle.cpt_pddl.specs.declared.fault.Fault.{Fault}

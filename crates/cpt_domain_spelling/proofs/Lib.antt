@@ -1,12 +1,15 @@
+mod ConditionLemmas
 mod DomainLemmas
-mod SchemaLemmas
 mod DurationLemmas
 mod EffectLemmas
-mod ConditionLemmas
 mod ItemLemmas
 mod KindLemmas
 mod NameLemmas
+mod SchemaLemmas
 mod SignatureLemmas
+mod SpellingLemmas
 mod TermLemmas
+mod TextLemmas
 mod TypedLemmas
 mod VariableLemmas
+mod WrittenLemmas

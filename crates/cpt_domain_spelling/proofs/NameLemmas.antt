@@ -1,5 +1,5 @@
-use Rattle.std.proofs.Common.{◌≡◌, ◌≢◌, ℕ, zero, suc, ◌+◌, ◌<◌, ◌≤◌, ◌++◌, ◌∷◌, [], Bool, true, false, List, length, All, refl, ap, ◌∙◌, sym, arith}
-use Rattle.std.specs.Prelude.{◌&&◌, nat_le, slice_get, slice_index_or, Option, None, Some, codes}
+use Rattle.std.proofs.Common.{◌≡◌, ◌≢◌, ℕ, zero, suc, ◌+◌, ◌<◌, ◌++◌, ◌∷◌, [], true, false, List, length, refl, ap, ◌∙◌, sym, arith}
+use Rattle.std.specs.Prelude.{◌&&◌, nat_le, slice_get, None, Some}
 use Rattle.std.specs.List.{list_all}
 use Rattle.std.specs.Str.{bytes_eq}
 use Rattle.std.proofs.lemmas.Bool.{and_parts, eqb-true, false_from_ne_true, leb-true}
@@ -9,7 +9,7 @@ use Rattle.cpt_line.specs.Names.{word_byte}
 use Rattle.cpt_pddl.specs.Names.{place_from, place_in}
 use Rattle.cpt_pddl.specs.Words.{is_name, is_variable}
 use Rattle.cpt_domain.specs.SoundNames.{AreDifferent}
-use Rattle.cpt_domain_spelling.specs.Spelling.{named}
+use Rattle.cpt_domain_spelling.specs.Names.{named}
 use Rattle.cpt_domain_spelling.proofs.ItemLemmas.{unless, when}
 
 pub same_bytes : (w : List ℕ) → bytes_eq w w ≡ true

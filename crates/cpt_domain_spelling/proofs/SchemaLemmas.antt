@@ -1,8 +1,8 @@
-use Rattle.std.proofs.Common.{◌≡◌, ℕ, ◌<◌, ◌≤◌, ◌∷◌, [], Bool, true, false, List, length, All, refl, ap, ◌∙◌, sym, arith}
-use Rattle.std.specs.Prelude.{is_some, Result, Ok, Err, Option, None, Some, codes}
+use Rattle.std.proofs.Common.{◌≡◌, ℕ, true, false, List, refl, ap, ◌∙◌}
+use Rattle.std.specs.Prelude.{is_some, Ok, None, Some, codes}
 use Rattle.cpt_sexp.specs.Printing.{Nest}
 use Rattle.cpt_sexp.specs.Printing as nest
-use Rattle.cpt_pddl.specs.Items.{Items, end, word, group}
+use Rattle.cpt_pddl.specs.Items.{Items}
 use Rattle.cpt_pddl.specs.Names.{place_in}
 use Rattle.cpt_pddl.specs.Reading.{group_at, name_at, nothing}
 use Rattle.cpt_pddl.specs.Words.{is_name}
@@ -15,7 +15,7 @@ use Rattle.cpt_schema.specs.Effects.{Effs}
 use Rattle.cpt_schema.specs.Schemas.{assembled, body, lasting_next, lits_of, parameters, part, schema_after, schema_in}
 use Rattle.cpt_domain_spelling.specs.Saying.{says}
 use Rattle.cpt_domain_spelling.specs.Spellable.{HasSpelling, IsSoundOver, IsTyped}
-use Rattle.cpt_domain_spelling.specs.Spelling.{action_nest, condition_nest, duration_nest, parameters_of, timing_nest, variables_nest}
+use Rattle.cpt_domain_spelling.specs.Spelling.{action_nest, condition_nest, parameters_of, timing_nest, variables_nest}
 use Rattle.cpt_domain_spelling.proofs.ConditionLemmas.{timed_back}
 use Rattle.cpt_domain_spelling.proofs.DurationLemmas.{duration_back}
 use Rattle.cpt_domain_spelling.proofs.EffectLemmas.{effects_back, lits_of_marks, marks}

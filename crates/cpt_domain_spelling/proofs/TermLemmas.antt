@@ -1,15 +1,12 @@
-use Rattle.std.proofs.Common.{◌≡◌, ℕ, ◌+◌, ◌<◌, ◌≤◌, ◌++◌, ◌∷◌, [], Bool, true, false, List, length, All, refl, ap, ◌∙◌, sym, subst, arith}
-use Rattle.std.specs.Prelude.{nat_lt, slice_get, slice_index_or, Result, Ok, Err, None, Some, codes}
-use Rattle.std.specs.List.{AllZip}
+use Rattle.std.proofs.Common.{◌≡◌, ℕ, ◌≤◌, ◌++◌, ◌∷◌, [], Bool, true, false, List, length, All, refl, ap, ◌∙◌, sym, arith}
+use Rattle.std.specs.Prelude.{slice_get, slice_index_or, Ok, Some}
 use Rattle.std.proofs.lemmas.Bool.{le-ltb}
 use Rattle.std.proofs.lemmas.List.{append-nil, append_assoc, length-append}
 use Rattle.std.proofs.lemmas.List.Elements.{All-head, All-tail}
 use Rattle.cpt_pddl.specs.declared.fault.Fault.TheVariants as faults
-use Rattle.cpt_pddl.specs.declared.typed.Typed.{Typed}
 use Rattle.cpt_pddl.specs.Faults.{or_fault}
-use Rattle.cpt_pddl.specs.Items.{Items, end, word, group}
+use Rattle.cpt_pddl.specs.Items.{Items}
 use Rattle.cpt_pddl.specs.Kinds.{is_below}
-use Rattle.cpt_pddl.specs.Names.{place_in}
 use Rattle.cpt_pddl.specs.Words.{is_name}
 use Rattle.cpt_declared.specs.declared.declared.Declared.{Declared}
 use Rattle.cpt_declared.specs.declared.signatures.Signatures.{Signatures}
@@ -20,7 +17,8 @@ use Rattle.cpt_schema.specs.Terms.{applied, atom_in, next_term, object_at, param
 use Rattle.cpt_domain.specs.SoundSchemas.{IsApplied, IsLit, IsTerm}
 use Rattle.cpt_domain_spelling.specs.Saying.{says}
 use Rattle.cpt_domain_spelling.specs.Spellable.{AreDistinct, AreOfTypes, HasSpelling, IsTypedAtom, kind_of}
-use Rattle.cpt_domain_spelling.specs.Spelling.{named, parameters_of, term_word, terms_nest, variable, variables_from}
+use Rattle.cpt_domain_spelling.specs.Names.{named}
+use Rattle.cpt_domain_spelling.specs.Spelling.{parameters_of, term_word, terms_nest}
 use Rattle.cpt_domain_spelling.proofs.ItemLemmas.{bound, end_there, unless, when, word_there}
 use Rattle.cpt_domain_spelling.proofs.NameLemmas.{get_seam, name_no_variable, place_there}
 use Rattle.cpt_domain_spelling.proofs.VariableLemmas.{variable_is, variable_there}

@@ -1,5 +1,5 @@
 use Rattle.std.proofs.Common.{◌≡◌, ◌≢◌, ℕ, ◌+◌, ◌-◌, ◌<◌, ◌≤◌, ◌++◌, ◌∷◌, [], Bool, true, false, List, length, All, refl, ap, ◌∙◌, sym, subst, arith}
-use Rattle.std.specs.Prelude.{is_some, nat_le, replicate, slice_index_or, Result, Ok, Err, None, Some, codes}
+use Rattle.std.specs.Prelude.{is_some, replicate, Ok, None, codes}
 use Rattle.std.specs.Str.{bytes_eq}
 use Rattle.std.proofs.lemmas.Bool.{lt-leb, ne_eqb}
 use Rattle.std.proofs.lemmas.List.{append-nil, append_assoc, length-append}
@@ -9,18 +9,18 @@ use Rattle.cpt_pddl.specs.declared.typed.Sort.{Sort}
 use Rattle.cpt_pddl.specs.declared.typed.Sort.TheVariants.{Objects, Variables}
 use Rattle.cpt_pddl.specs.declared.typed.Typed.{Typed}
 use Rattle.cpt_pddl.specs.Faults.{or_fault}
-use Rattle.cpt_pddl.specs.Items.{Items, end, word, group}
+use Rattle.cpt_pddl.specs.Items.{Items}
 use Rattle.cpt_pddl.specs.Names.{place_in}
 use Rattle.cpt_pddl.specs.Typed.{Run, dashed, declared, finished, fits_sort, most, no_names, padded, taken, type_word, typed_as, typed_list, typed_rest}
 use Rattle.cpt_pddl.specs.Typed as typed
-use Rattle.cpt_pddl.specs.Words.{is_name}
 use Rattle.cpt_domain.specs.SoundKinds.{AreBelow, AreTyped}
 use Rattle.cpt_domain.specs.SoundNames.{AreDifferent}
 use Rattle.cpt_domain_spelling.specs.Saying.{says}
 use Rattle.cpt_domain_spelling.specs.Spellable.{AreDistinct}
-use Rattle.cpt_domain_spelling.specs.Spelling.{named, typed_nest}
+use Rattle.cpt_domain_spelling.specs.Names.{named}
+use Rattle.cpt_domain_spelling.specs.Spelling.{typed_nest}
 use Rattle.cpt_domain_spelling.proofs.ItemLemmas.{bound, end_there, unless, when, word_there}
-use Rattle.cpt_domain_spelling.proofs.NameLemmas.{name_other, other_bytes, place_new, place_there, same_bytes, variable_other}
+use Rattle.cpt_domain_spelling.proofs.NameLemmas.{name_other, other_bytes, place_new, place_there, variable_other}
 
 -- a typed list that is being read, and one that was read
 abbrev reading : List (List ℕ) → List ℕ → Bool → Run

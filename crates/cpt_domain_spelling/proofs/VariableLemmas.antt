@@ -1,12 +1,13 @@
-use Rattle.std.proofs.Common.{◌≡◌, ℕ, zero, suc, ◌+◌, ◌<◌, ◌≤◌, ◌^◌, ◌∷◌, [], Bool, true, false, List, length, All, refl, ap, ◌∙◌, sym, arith}
-use Rattle.std.specs.Prelude.{Some, slice_index_or}
+use Rattle.std.proofs.Common.{◌≡◌, ℕ, zero, suc, ◌+◌, ◌<◌, ◌≤◌, ◌∷◌, [], true, List, length, All, refl, ap, ◌∙◌, sym, arith}
+use Rattle.std.specs.Prelude.{Some}
 use Rattle.std.specs.Fmt.{decimal}
 use Rattle.std.proofs.lemmas.Fmt.{decimal_injective, decimal_nonempty}
 use Rattle.std.proofs.lemmas.List.Elements.{All-cons, All-nil}
 use Rattle.cpt_pddl.specs.Names.{place_in}
 use Rattle.cpt_pddl.specs.Words.{is_variable}
 use Rattle.cpt_domain.specs.SoundNames.{AreDifferent}
-use Rattle.cpt_domain_spelling.specs.Spelling.{named, variable, variables_from}
+use Rattle.cpt_domain_spelling.specs.Names.{named}
+use Rattle.cpt_domain_spelling.specs.Spelling.{variable, variables_from}
 use Rattle.cpt_domain_spelling.proofs.NameLemmas.{place_there}
 
 marked_some : (ds : List ℕ) → 0 < length ds → is_variable (63 ∷ ds) ≡ true

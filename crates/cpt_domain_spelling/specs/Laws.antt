@@ -2,14 +2,13 @@ use Rattle.std.specs.Prelude.{◌≡◌, ℕ, ◌<◌, ◌≤◌, true, List, []
 use Rattle.cpt_sexp.specs.Grammar.{ForestShape}
 use Rattle.cpt_sexp.specs.Printing.{nothing, name, list, nest_of}
 use Rattle.cpt_pddl.specs.declared.typed.Sort.{Sort}
-use Rattle.cpt_pddl.specs.declared.typed.Typed.{Typed}
 use Rattle.cpt_pddl.specs.Items.{Items}
 use Rattle.cpt_pddl.specs.Names.{place_in}
 use Rattle.cpt_pddl.specs.Typed.{fits_sort, most, no_names, typed_list}
 use Rattle.cpt_pddl.specs.Words.{is_name}
 use Rattle.cpt_declared.specs.declared.kinds.Kinds.{Kinds}
 use Rattle.cpt_declared.specs.declared.signatures.Signatures.{Signatures}
-use Rattle.cpt_declared.specs.Kinds.{is_rooted, kinds_in}
+use Rattle.cpt_declared.specs.Kinds.{kinds_in}
 use Rattle.cpt_declared.specs.Signatures.{functions_in, no_signatures, predicates_in}
 use Rattle.cpt_declared.specs.declared.declared.Declared.{Declared}
 use Rattle.cpt_schema.specs.declared.durations.Lasting.{Lasting}
@@ -22,12 +21,14 @@ use Rattle.cpt_schema.specs.Schemas.{lits_of, no_conds, no_effs, schema_in}
 use Rattle.cpt_schema.specs.Terms.{applied}
 use Rattle.cpt_domain.specs.declared.domain.Domain.{Domain}
 use Rattle.cpt_domain.specs.Reading.{domain_of}
-use Rattle.cpt_domain.specs.SoundKinds.{AreSignatures, AreTyped}
+use Rattle.cpt_domain.specs.SoundKinds.{AreKinds, AreSignatures, AreTyped}
 use Rattle.cpt_domain.specs.SoundNames.{AreDifferent}
 use Rattle.cpt_domain.specs.SoundSchemas.{IsApplied, IsLasting}
+use Rattle.cpt_domain_spelling.specs.Names.{named}
+use Rattle.cpt_domain_spelling.specs.Siblings.{IsArranged, Siblings, siblings_nest}
 use Rattle.cpt_domain_spelling.specs.Saying.{says}
-use Rattle.cpt_domain_spelling.specs.Spellable.{AreDistinct, AreFree, AreInOrder, AreOfTypes, HasSpelling, IsSoundOver, IsSpellable, IsTyped, IsTypedLasting}
-use Rattle.cpt_domain_spelling.specs.Spelling.{action_nest, conditions_nest, domain_nest, duration_nest, effects_nest, kinds_nest, named, parameters_of, signatures_nest, terms_nest, typed_nest}
+use Rattle.cpt_domain_spelling.specs.Spellable.{AreDistinct, AreFree, AreOfTypes, HasSpelling, IsSoundOver, IsSpellable, IsTyped, IsTypedLasting}
+use Rattle.cpt_domain_spelling.specs.Spelling.{action_nest, conditions_nest, domain_nest, duration_nest, effects_nest, parameters_of, signatures_nest, terms_nest, typed_nest}
 
 -- a typed list that says different names with their types, each of one of these types, is read as them
 abbrev pub TypedListsReadBack : Type 0
@@ -36,11 +37,11 @@ TypedListsReadBack =
     AreTyped (most sort) (length types) (record { names = names; kinds = kinds }) → says items ≡ typed_nest types names kinds →
     typed_list sort types no_names items ≡ Ok (record { names = names; kinds = kinds })
 
--- types in order, which are said with their parents, are read as they are
+-- types that are said with their parents, in groups of siblings, are read as they are, with their numbers
 abbrev pub TypesReadBack : Type 0
 TypesReadBack =
-    (section : ℕ) (kinds : Kinds) (items : Items) → AreDistinct kinds.names → AreInOrder kinds → is_rooted kinds.parents ≡ true → length kinds.parents ≡ length kinds.names → 0 < length kinds.names →
-    says items ≡ kinds_nest kinds → kinds_in section items ≡ Ok kinds
+    (section : ℕ) (kinds : Kinds) (groups : List Siblings) (items : Items) → AreDistinct kinds.names → named kinds.names 0 ≡ codes "object" → AreKinds (length kinds.names) kinds.parents →
+    IsArranged kinds.parents groups → says items ≡ siblings_nest kinds.names groups → kinds_in section items ≡ Ok kinds
 
 -- predicates that are said with their variables are read as they are
 abbrev pub PredicatesReadBack : Type 0
@@ -90,4 +91,5 @@ ActionsReadBack =
 
 -- a parsed text that says the spelling of a domain is read as this domain, wherever its words and groups stand
 abbrev pub DomainsReadBack : Type 0
-DomainsReadBack = (d : Domain) (forest : ForestShape) → IsSpellable d → nest_of forest.text forest.trees ≡ domain_nest d → domain_of forest ≡ Ok d
+DomainsReadBack =
+    (d : Domain) (groups : List Siblings) (forest : ForestShape) → IsSpellable d groups → nest_of forest.text forest.trees ≡ domain_nest d groups → domain_of forest ≡ Ok d

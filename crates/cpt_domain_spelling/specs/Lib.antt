@@ -1,4 +1,7 @@
 pub mod Laws
+pub mod Names
 pub mod Saying
+pub mod Siblings
 pub mod Spellable
 pub mod Spelling
+pub mod Texts

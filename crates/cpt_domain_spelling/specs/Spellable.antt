@@ -1,4 +1,4 @@
-use Rattle.std.specs.Prelude.{◌≡◌, ℕ, ◌<◌, ◌≤◌, Bool, true, false, map, List, [], length, All, slice_index, slice_index_or, codes}
+use Rattle.std.specs.Prelude.{◌≡◌, ℕ, ◌<◌, Bool, true, false, map, List, [], length, All, slice_index, slice_index_or, codes}
 use Rattle.std.specs.List.{AllZip}
 use Rattle.cpt_pddl.specs.declared.words.Head.{Head}
 use Rattle.cpt_pddl.specs.declared.words.Head.TheVariants.{And, Not, Equal, At, Over, Untaken, Numeric, Other}
@@ -17,7 +17,9 @@ use Rattle.cpt_domain.specs.Sound.{IsSound}
 use Rattle.cpt_domain.specs.SoundKinds.{IsSoundDeclared}
 use Rattle.cpt_domain.specs.SoundNames.{AreDifferent}
 use Rattle.cpt_domain.specs.SoundSchemas.{IsSoundSchema}
-use Rattle.cpt_domain_spelling.specs.Spelling.{declared_of, named}
+use Rattle.cpt_domain_spelling.specs.Names.{named}
+use Rattle.cpt_domain_spelling.specs.Siblings.{IsArranged, Siblings}
+use Rattle.cpt_domain_spelling.specs.Spelling.{declared_of}
 
 -- each of these words begins with a letter
 abbrev pub AreNames : List (List ℕ) → Type 0
@@ -42,16 +44,11 @@ is_free Other = true
 abbrev pub AreFree : List (List ℕ) → Type 0
 AreFree words = All (λ w. is_free (head_of w) ≡ true) words
 
--- object is the first type, and each other type has a lesser type for its parent
-pub record AreInOrder (kinds : Kinds) : Type 0 where
-  pub object : named kinds.names 0 ≡ codes "object"
-  pub lesser : (kind : ℕ) → 0 < kind → kind < length kinds.parents → slice_index kinds.parents kind < kind
-
 -- what is declared is sound, and has a spelling
 pub record HasSpelling (d : Declared) : Type 0 where
   pub sound : IsSoundDeclared d
   pub types : AreDistinct d.types.names
-  pub order : AreInOrder d.types
+  pub object : named d.types.names 0 ≡ codes "object"
   pub constants : AreDistinct d.constants.names
   pub predicates : AreDistinct d.predicates.names
   pub free : AreFree d.predicates.names
@@ -85,14 +82,15 @@ pub record IsTyped (declared : Declared) (s : Schema) : Type 0 where
 abbrev pub IsSoundOver : Declared → Schema → Type 0
 IsSoundOver d s = IsSoundSchema (length d.types.names) (length d.constants.names) d.predicates.kinds d.functions.kinds s
 
--- A domain has a spelling: it is sound; its names begin with letters, and those of its predicates begin no other
--- condition or effect; object is its first type, and each other type has a lesser one for its parent; and the terms
--- of its atoms are of the types that are wanted.
-pub record IsSpellable (d : Domain) : Type 0 where
+-- A domain has a spelling, with its types in these groups: it is sound; its names begin with letters, and those of
+-- its predicates begin no other condition or effect; object is its first type, and the others stand in these groups
+-- with the numbers that they have; and the terms of its atoms are of the types that are wanted.
+pub record IsSpellable (d : Domain) (groups : List Siblings) : Type 0 where
   pub sound : IsSound d
   pub name : is_name d.name ≡ true
   pub types : AreNames (declared_of d).types.names
-  pub order : AreInOrder (declared_of d).types
+  pub object : named (declared_of d).types.names 0 ≡ codes "object"
+  pub arranged : IsArranged (declared_of d).types.parents groups
   pub constants : AreNames (declared_of d).constants.names
   pub predicates : AreNames (declared_of d).predicates.names
   pub free : AreFree (declared_of d).predicates.names

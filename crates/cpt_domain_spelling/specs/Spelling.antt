@@ -17,10 +17,8 @@ use Rattle.cpt_domain.specs.declared.domain.Function.{Function}
 use Rattle.cpt_domain.specs.declared.domain.ObjectDecl.{ObjectDecl}
 use Rattle.cpt_domain.specs.declared.domain.Predicate.{Predicate}
 use Rattle.cpt_domain.specs.declared.domain.TypeDecl.{TypeDecl}
-
--- the name with a number
-abbrev pub named : List (List ℕ) → ℕ → List ℕ
-named names number = slice_index_or names number []
+use Rattle.cpt_domain_spelling.specs.Names.{named}
+use Rattle.cpt_domain_spelling.specs.Siblings.{Siblings, siblings_nest}
 
 -- a variable is spelled as a question mark and its number
 abbrev pub variable : ℕ → List ℕ
@@ -44,10 +42,6 @@ typed_nest types (w ∷ names) (kind ∷ kinds) = name w (name (codes "-") (name
 -- variables of these types
 abbrev pub variables_nest : List (List ℕ) → List ℕ → Nest
 variables_nest types kinds = typed_nest types (variables_from 0 kinds) kinds
-
--- the types other than object, each followed by a dash and its parent
-abbrev pub kinds_nest : Kinds → Nest
-kinds_nest kinds = typed_nest kinds.names (drop 1 kinds.names) (drop 1 kinds.parents)
 
 -- predicates or functions, each in its group with its variables
 abbrev pub signatures_nest : List (List ℕ) → List (List ℕ) → List (List ℕ) → Nest
@@ -142,15 +136,15 @@ functions_of d = record { names = map (λ (f : Function). f.name) d.functions; k
 abbrev pub declared_of : Domain → Declared
 declared_of d = record { types = kinds_of d; constants = constants_of d; predicates = predicates_of d; functions = functions_of d }
 
--- the sections of what is declared, and then the rest
-abbrev pub sections_then : Declared → Nest → Nest
-sections_then declared rest =
-    list (name (codes ":types") (kinds_nest declared.types))
+-- the sections of what is declared, with the types in these groups, and then the rest
+abbrev pub sections_then : Declared → List Siblings → Nest → Nest
+sections_then declared groups rest =
+    list (name (codes ":types") (siblings_nest declared.types.names groups))
     (list (name (codes ":constants") (typed_nest declared.types.names declared.constants.names declared.constants.kinds))
     (list (name (codes ":predicates") (signatures_nest declared.types.names declared.predicates.names declared.predicates.kinds))
     (list (name (codes ":functions") (signatures_nest declared.types.names declared.functions.names declared.functions.kinds)) rest)))
 
--- the spelling of a domain
-abbrev pub domain_nest : Domain → Nest
-domain_nest d =
-    list (name (codes "define") (list (name (codes "domain") (name d.name nothing)) (sections_then (declared_of d) (actions_nest (declared_of d) d.schemas)))) nothing
+-- the spelling of a domain, with its types in these groups
+abbrev pub domain_nest : Domain → List Siblings → Nest
+domain_nest d groups =
+    list (name (codes "define") (list (name (codes "domain") (name d.name nothing)) (sections_then (declared_of d) groups (actions_nest (declared_of d) d.schemas)))) nothing

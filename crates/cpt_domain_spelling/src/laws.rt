@@ -1,6 +1,7 @@
 //! The laws.
 
 ghost use Rattle.cpt_domain_spelling.specs.Laws.{ActionsReadBack, ConditionsReadBack, DomainsReadBack, DurationsReadBack, EffectsReadBack, FunctionsReadBack, PredicatesReadBack, TermsReadBack, TypedListsReadBack, TypesReadBack};
+ghost use Rattle.cpt_domain_spelling.specs.Texts.{TextsReadBack};
 
 /// A typed list that says different names with their types is read as these names and types.
 pub fn typed_lists_read_back()
@@ -52,4 +53,10 @@ pub fn actions_read_back()
 /// A parsed text that says the spelling of a domain is read as this domain, wherever its words and groups stand.
 pub fn domains_read_back()
     ensures { DomainsReadBack }
+{}
+
+/// Whatever parsing returns of the text that a domain's spelling is printed as, it is read as this domain, unless
+/// memory ran out.
+pub fn texts_read_back()
+    ensures { TextsReadBack }
 {}
