@@ -1,4 +1,4 @@
-use Rattle.std.proofs.Common.{◌≡◌, ◌∙◌, ℕ, suc, zero, ◌+◌, ◌<◌, ◌≤◌, ◌⊎◌, ◌↔◌, inl, inr, true, List, [], ◌∷◌, length, map, refl, sym, ap, subst, get_or, arith, ◌*◌, cond, min}
+use Rattle.std.proofs.Common.{◌≡◌, ◌∙◌, ℕ, suc, zero, ◌+◌, ◌<◌, ◌≤◌, ◌⊎◌, inl, inr, true, List, [], ◌∷◌, length, map, refl, sym, ap, subst, get_or, arith, ◌*◌, cond, min}
 use Rattle.std.specs.Prelude.{Contains, slice_index_or, sum_by, count_by}
 use Rattle.std.specs.List.{AllZip}
 use Rattle.std.proofs.lemmas.List.{get_or-map, get_or_default, length-map}
@@ -11,7 +11,7 @@ use Rattle.cpt_facts.specs.declared.problem.Problem.{Problem}
 use Rattle.cpt_facts.specs.Fitting.{objects_of}
 use Rattle.cpt_instance.specs.Choices.{AllRise, choice_at, choice_count, choices_of, list_total, member_count, members_from, object_kinds, schemas_total}
 use Rattle.cpt_instance.specs.Durations.{HasValues, ValueMap}
-use Rattle.cpt_instance.specs.Instances.{AreInstances, Instance, IsInstance, IsInstanceBefore, IsListBefore, IsObjectOf, IsTyped, is_of, list_count, no_object, no_schema, object_at, object_count, parents_of, schema_at, type_correct_lists}
+use Rattle.cpt_instance.specs.Instances.{AreInstances, Instance, IsInstance, IsInstanceBefore, IsListBefore, IsObjectOf, list_count, no_object, no_schema, parents_of, schema_at, type_correct_lists}
 use Rattle.cpt_instance.specs.Listing.{Adds, AddsWhere, AreAll, IsChosen, IsKept, IsOfFirst, IsOfSchema}
 use Rattle.cpt_instance.proofs.ChoiceLemmas.{HasPlace, all_rise, chosen_at, chosen_from_wanted, choices_rise, count_is, place_of, wanted_from_chosen}
 use Rattle.cpt_instance.proofs.ListingLemmas.{adds_none, adds_same, adds_where, all_more, all_none, all_same}

@@ -5,7 +5,6 @@ use Rattle.cpt_domain.specs.declared.domain.Domain.{Domain}
 use Rattle.cpt_domain.specs.declared.domain.ObjectDecl.{ObjectDecl}
 use Rattle.cpt_facts.specs.declared.problem.Problem.{Problem}
 use Rattle.cpt_facts.specs.Fitting.{objects_of}
-use Rattle.cpt_instance.specs.Instances.{parents_of}
 
 -- the types of the objects, by number
 abbrev pub object_kinds : Domain → Problem → List ℕ

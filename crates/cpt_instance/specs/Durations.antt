@@ -1,4 +1,4 @@
-use Rattle.std.specs.Prelude.{ℕ, nat_eq, List, ◌∷◌, Option, Some, None, MatchOption, Vec}
+use Rattle.std.specs.Prelude.{ℕ, nat_eq, List, ◌∷◌, Option, Some, MatchOption, Vec}
 use Rattle.std.specs.HashMap.{HashMap, get_by}
 use Rattle.std.specs.Cmp.Lexicographic.{pointwise}
 use Rattle.std.specs.declared.alloc.Global.{Global}

@@ -1,4 +1,4 @@
-use Rattle.std.proofs.Common.{◌≡◌, ◌∙◌, ◌<◌, ◌++◌, List, ℕ, [], ◌∷◌, length, arith, subst, sym, get_or, rules, drop, ◌+◌, ◌/◌, ◌%◌}
+use Rattle.std.proofs.Common.{◌≡◌, ◌∙◌, ◌++◌, List, ℕ, [], ◌∷◌, length, arith, subst, sym, get_or, rules, drop, ◌+◌, ◌/◌, ◌%◌}
 use Rattle.cpt_instance.specs.Choices.{choice_at}
 use Rattle.cpt_instance.proofs.ChoiceLemmas.{IsThere, is_there}
 use Rattle.cpt_instance.proofs.choices.choice_at.Goals as goal

@@ -1,4 +1,4 @@
-use Rattle.std.proofs.Common.{◌≡◌, ◌<◌, arith}
+use Rattle.std.proofs.Common.{◌≡◌, arith}
 use Rattle.cpt_instance.specs.Choices.{choice_count}
 use Rattle.cpt_instance.proofs.InstanceLemmas.{one_more_place}
 use Rattle.cpt_instance.proofs.listing.push_chosen.Goals as goal
