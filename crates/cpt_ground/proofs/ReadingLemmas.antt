@@ -1,5 +1,5 @@
-use Rattle.std.proofs.Common.{◌≡◌, ◌∙◌, ℕ, zero, suc, ◌+◌, ◌<◌, List, [], ◌∷◌, ◌++◌, length, take, drop, map, flat_map, refl, sym, ap, subst, get_or, arith, append_assoc, drop-cons}
-use Rattle.std.specs.Prelude.{All, Contains, IsSome, Option, Some, slice_index_or}
+use Rattle.std.proofs.Common.{◌≡◌, ◌∙◌, ℕ, ◌+◌, ◌<◌, List, [], ◌∷◌, ◌++◌, length, take, sym, ap, subst}
+use Rattle.std.specs.Prelude.{All, Contains, IsSome, Some, slice_index_or}
 use Rattle.std.specs.List.{AllZip}
 use Rattle.std.proofs.lemmas.List.{take_more}
 use Rattle.std.proofs.lemmas.List.Elements.{All-contains_itself, All-weaker}
@@ -7,7 +7,7 @@ use Rattle.cpt_domain.specs.declared.domain.Domain.{Domain}
 use Rattle.cpt_facts.specs.declared.problem.Problem.{Problem}
 use Rattle.cpt_instance.specs.declared.instances.Instance.{Instance}
 use Rattle.cpt_instance.specs.Durations.{HasValues, ValueMap, duration_in}
-use Rattle.cpt_instance.specs.Instances.{AreInstances, HasDuration, IsInstance, names_of, object_at, schema_at}
+use Rattle.cpt_instance.specs.Instances.{AreInstances, HasDuration, IsInstance, schema_at}
 use Rattle.cpt_instance.proofs.MapLemmas.{IsLookup, lookup_is_duration, timed_exact}
 
 zip_push : {A B : Type 0} (R : A → B → Type 0) (xs : List A) (ys : List B) (x : A) (y : B) → AllZip R xs ys → R x y → AllZip R (xs ++ x ∷ []) (ys ++ y ∷ [])

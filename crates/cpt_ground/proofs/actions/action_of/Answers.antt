@@ -1,5 +1,5 @@
 use Rattle.std.proofs.Common.{◌≡◌, ◌∙◌, ap, subst, sym}
-use Rattle.std.specs.Prelude.{IsSome, Option, Some}
+use Rattle.std.specs.Prelude.{IsSome}
 use Rattle.cpt_schema.specs.declared.schemas.Schema.{Schema}
 use Rattle.cpt_instance.specs.Durations.{duration_in}
 use Rattle.cpt_instance.specs.Instances.{ground_atoms, group_of, names_of, schema_at}

@@ -1,4 +1,4 @@
-use Rattle.cpt_ground.proofs.ReadingFits.{reading_fits, task_is_ground}
+use Rattle.cpt_ground.proofs.ReadingFits.{reading_fits}
 use Rattle.cpt_ground.proofs.grounding.ground.Goals as goal
 
 pub compile-requires : goal.compile-requires

@@ -1,4 +1,4 @@
-use Rattle.std.proofs.Common.{◌≡◌, ◌∙◌, List, ℕ, ap, map, min, refl, subst, sym, length, arith}
+use Rattle.std.proofs.Common.{◌≡◌, ◌∙◌, List, ap, map, min, refl, subst, sym, length, arith}
 use Rattle.cpt_domain.specs.declared.domain.TypeDecl.{TypeDecl}
 use Rattle.cpt_instance.specs.Choices.{schemas_total}
 use Rattle.cpt_instance.specs.Instances.{AreInstances, Instance, type_correct_lists}
