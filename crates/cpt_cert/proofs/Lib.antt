@@ -1,4 +1,5 @@
 pub mod Cutting
+pub mod Enough
 pub mod Joining
 pub mod Keeping
 pub mod LineAgain

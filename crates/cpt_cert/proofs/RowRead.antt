@@ -12,7 +12,8 @@ use Rattle.cpt_task.specs.declared.span.Span.{Span}
 use Rattle.cpt_task.specs.declared.span.Span.TheVariants.{At, Never}
 use Rattle.cpt_cert.specs.declared.forms.Run.{Run}
 use Rattle.cpt_cert.specs.Forms.{IsShort, IsShortSpan, IsRowSpan, IsRun, AreRuns, AreAlone, IsRow, span_word, run_word}
-use Rattle.cpt_cert.specs.Reading.{cut, span_in, number_to, row_span, row_span_in, run_by, run_in, runs_in, are_alone, is_same_span, are_runs, row_in}
+use Rattle.cpt_cert.specs.Reading.{cut, span_in, number_to, row_span, row_span_in, run_by, run_in, runs_in, are_alone, are_runs, row_in}
+use Rattle.cpt_cert.specs.Text.{same_span}
 use Rattle.cpt_cert.proofs.Joining.{is_solid, are_solid}
 use Rattle.cpt_cert.proofs.Numerals.{own, number_solid}
 use Rattle.cpt_cert.proofs.Parts.{bind_some, unless, pick, some_is, there}
@@ -162,13 +163,13 @@ alone_again : (runs : List Run) → All IsOnce runs → are_alone runs ≡ true
 alone_again [] h = refl
 alone_again (run ∷ runs) h = and_from (eqb run.count 1) (are_alone runs) (eq-eqb run.count 1 (All-head IsOnce run runs h)) (alone_again runs (All-tail IsOnce run runs h))
 
-same_span : (u v : Span) → u ≡ v → is_same_span u v ≡ true
-same_span (At m) (At n) e = eq-eqb m n cc
-same_span (At m) Never e = absurd cc
-same_span Never (At n) e = absurd cc
-same_span Never Never e = refl
+same_again : (u v : Span) → u ≡ v → same_span u v ≡ true
+same_again (At m) (At n) e = eq-eqb m n cc
+same_again (At m) Never e = absurd cc
+same_again Never (At n) e = absurd cc
+same_again Never Never e = refl
 
-one_span : (u v : Span) → is_same_span u v ≡ true → u ≡ v
+one_span : (u v : Span) → same_span u v ≡ true → u ≡ v
 one_span (At m) (At n) e = ap At (eqb-true m n e)
 one_span (At m) Never e = absurd cc
 one_span Never (At n) e = absurd cc
@@ -178,8 +179,8 @@ apart_some : (runs : List Run) → are_runs runs ≡ true → AreRuns runs
 apart_some [] h = tt
 apart_some (run ∷ []) h = tt
 apart_some (run ∷ next ∷ runs) h =
-    let p = and_parts (not (is_same_span run.value next.value)) (are_runs (next ∷ runs)) h in
-    (λ e. both (not-true (is_same_span run.value next.value) p.0) (same_span run.value next.value e), apart_some (next ∷ runs) p.1)
+    let p = and_parts (not (same_span run.value next.value)) (are_runs (next ∷ runs)) h in
+    (λ e. both (not-true (same_span run.value next.value) p.0) (same_again run.value next.value e), apart_some (next ∷ runs) p.1)
   where
     both : {b : Bool} → b ≡ false → b ≡ true → ⊥
     both e f = cc
@@ -187,7 +188,7 @@ apart_some (run ∷ next ∷ runs) h =
 apart_again : (runs : List Run) → AreRuns runs → are_runs runs ≡ true
 apart_again [] h = refl
 apart_again (run ∷ []) h = refl
-apart_again (run ∷ next ∷ runs) h = and_from (not (is_same_span run.value next.value)) (are_runs (next ∷ runs)) (not_from_false (is_same_span run.value next.value) (false_from_ne_true (is_same_span run.value next.value) (λ e. h.0 (one_span run.value next.value e)))) (apart_again (next ∷ runs) h.1)
+apart_again (run ∷ next ∷ runs) h = and_from (not (same_span run.value next.value)) (are_runs (next ∷ runs)) (not_from_false (same_span run.value next.value) (false_from_ne_true (same_span run.value next.value) (λ e. h.0 (one_span run.value next.value e)))) (apart_again (next ∷ runs) h.1)
 
 form_some : (runs : List Run) → (are_alone runs || are_runs runs) ≡ true → AreAlone runs ⊎ AreRuns runs
 form_some runs h =

@@ -23,6 +23,7 @@ use Rattle.cpt_cert.specs.declared.forms.Run.{Run}
 use Rattle.cpt_cert.specs.declared.forms.CertLine.{CertLine}
 use Rattle.cpt_cert.specs.declared.forms.CertLine.TheVariants as lines
 use Rattle.cpt_cert.specs.Forms.{capped}
+use Rattle.cpt_cert.specs.Text.{same_span}
 
 infixl 10 ◌>>=◌
 -- one step of reading after another
@@ -333,17 +334,10 @@ abbrev pub are_alone : List Run → Bool
 are_alone [] = true
 are_alone (run ∷ runs) = (run.count == 1) && are_alone runs
 
--- two values are one
-abbrev pub is_same_span : Span → Span → Bool
-is_same_span (At m) (At n) = m == n
-is_same_span (At m) Never = false
-is_same_span Never (At n) = false
-is_same_span Never Never = true
-
 abbrev pub are_runs : List Run → Bool
 are_runs [] = true
 are_runs (run ∷ []) = true
-are_runs (run ∷ next ∷ runs) = not (is_same_span run.value next.value) && are_runs (next ∷ runs)
+are_runs (run ∷ next ∷ runs) = not (same_span run.value next.value) && are_runs (next ∷ runs)
 
 -- a row of either version
 unfoldable pub row_in : List (List ℕ) → Option (List Run)

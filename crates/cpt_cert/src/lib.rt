@@ -11,6 +11,9 @@ mod steps;
 mod words;
 
 pub use forms::{Cert, CertLine, Claim, Run, Version};
-pub use laws::one_reading;
+pub use laws::{enough_is_kept, one_reading};
 pub use lines::Lines;
 pub use reading::read_line;
+
+#[cfg(test)]
+mod tests;

@@ -1,7 +1,8 @@
 //! The rows of tables.
 
 ghost use Rattle.std.specs.Prelude.{◌≡◌, map, option_map, IfOk};
-ghost use Rattle.cpt_cert.specs.Reading.{row_span, row_span_in, run_by, run_in, runs_in, are_alone, is_same_span, are_runs, row_in};
+ghost use Rattle.cpt_cert.specs.Reading.{row_span, row_span_in, run_by, run_in, runs_in, are_alone, are_runs, row_in};
+ghost use Rattle.cpt_cert.specs.Text.{same_span};
 
 use crate::forms::Run;
 use crate::words::{cut, number_to, span};
@@ -76,7 +77,7 @@ fn are_alone(runs: &[Run]) -> bool
 }
 
 fn are_one(first: Span, second: Span) -> bool
-    ensures { result ≡ is_same_span first second }
+    ensures { result ≡ same_span first second }
 {
     match (first, second) {
         (Span::At(m), Span::At(n)) => m == n,
