@@ -5,6 +5,7 @@ mod EffectLemmas
 mod ItemLemmas
 mod KindLemmas
 mod NameLemmas
+mod OrderLemmas
 mod SchemaLemmas
 mod SignatureLemmas
 mod SpellingLemmas

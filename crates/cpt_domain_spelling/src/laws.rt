@@ -1,6 +1,7 @@
 //! The laws.
 
 ghost use Rattle.cpt_domain_spelling.specs.Laws.{ActionsReadBack, ConditionsReadBack, DomainsReadBack, DurationsReadBack, EffectsReadBack, FunctionsReadBack, PredicatesReadBack, TermsReadBack, TypedListsReadBack, TypesReadBack};
+ghost use Rattle.cpt_domain_spelling.specs.Siblings.{LesserParentsStand};
 ghost use Rattle.cpt_domain_spelling.specs.Texts.{TextsReadBack};
 
 /// A typed list that says different names with their types is read as these names and types.
@@ -59,4 +60,9 @@ pub fn domains_read_back()
 /// memory ran out.
 pub fn texts_read_back()
     ensures { TextsReadBack }
+{}
+
+/// Where each type but `object` has a lesser one for its parent, the types of a spelling can stand one by one.
+pub fn lesser_parents_stand()
+    ensures { LesserParentsStand }
 {}
