@@ -111,7 +111,7 @@ unfolding with_declared
 predicates_part d at items h said =
     let w = word_there items (codes ":predicates") _ said in
     ap (part_in (behind_constants d) at) w.is ∙ ap (part_by (behind_constants d) at w.at w.more) key_predicates
-    ∙ bound _ (bound _ (predicates_back d.types.names d.predicates w.more h.types h.predicates h.free h.sound.predicates w.said) refl) refl
+    ∙ bound _ (bound _ (predicates_back d.types.names d.predicates w.more h.types h.predicates h.unreserved h.sound.predicates w.said) refl) refl
 
 functions_part : (d : Declared) (at : ℕ) (items : Items) → HasSpelling d → says items ≡ nest.name (codes ":functions") (signatures_nest d.types.names d.functions.names d.functions.kinds)
     → part_in (behind_predicates d) at items ≡ Ok (part d [] [] false)
@@ -201,7 +201,7 @@ declared_spelled d groups h =
       object = h.object;
       constants = record { names = h.constants; different = h.sound.names.constants };
       predicates = record { names = h.predicates; different = h.sound.names.predicates };
-      free = h.free;
+      unreserved = h.unreserved;
       functions = record { names = h.functions; different = h.sound.names.functions };
     }
 
