@@ -1,4 +1,4 @@
-use Rattle.std.specs.Prelude.{◌≡◌, ℕ, ◌<◌, ◌≤◌, true, List, [], length, slice_index_or, All, Ok, None, codes}
+use Rattle.std.specs.Prelude.{◌≡◌, ℕ, Bool, ◌<◌, ◌≤◌, true, List, [], length, slice_index_or, All, Ok, None, codes}
 use Rattle.cpt_sexp.specs.Grammar.{ForestShape}
 use Rattle.cpt_sexp.specs.Printing.{nothing, name, list, nest_of}
 use Rattle.cpt_pddl.specs.declared.typed.Sort.{Sort}
@@ -93,3 +93,8 @@ ActionsReadBack =
 abbrev pub DomainsReadBack : Type 0
 DomainsReadBack =
     (d : Domain) (groups : List Siblings) (forest : ForestShape) → IsSpellable d groups → nest_of forest.text forest.trees ≡ domain_nest d groups → domain_of forest ≡ Ok d
+
+-- each action that is read, durative or not, is typed
+abbrev pub ReadActionsAreTyped : Type 0
+ReadActionsAreTyped =
+    (durative : Bool) (d : Declared) (known : List (List ℕ)) (items : Items) (s : Schema) → AreUnreserved d.predicates.names → schema_in durative d known items ≡ Ok s → IsTyped d s

@@ -1,6 +1,6 @@
 //! The laws.
 
-ghost use Rattle.cpt_domain_spelling.specs.Laws.{ActionsReadBack, ConditionsReadBack, DomainsReadBack, DurationsReadBack, EffectsReadBack, FunctionsReadBack, PredicatesReadBack, TermsReadBack, TypedListsReadBack, TypesReadBack};
+ghost use Rattle.cpt_domain_spelling.specs.Laws.{ActionsReadBack, ConditionsReadBack, DomainsReadBack, DurationsReadBack, EffectsReadBack, FunctionsReadBack, PredicatesReadBack, ReadActionsAreTyped, TermsReadBack, TypedListsReadBack, TypesReadBack};
 ghost use Rattle.cpt_domain_spelling.specs.Siblings.{LesserParentsStand};
 ghost use Rattle.cpt_domain_spelling.specs.Texts.{TextsReadBack};
 
@@ -65,4 +65,10 @@ pub fn texts_read_back()
 /// Where each type but `object` has a lesser one for its parent, the types of a spelling can stand one by one.
 pub fn lesser_parents_stand()
     ensures { LesserParentsStand }
+{}
+
+/// Each action that is read, durative or not, has terms of the types that are wanted, and names of atoms that can stand
+/// where they stand.
+pub fn read_actions_are_typed()
+    ensures { ReadActionsAreTyped }
 {}
