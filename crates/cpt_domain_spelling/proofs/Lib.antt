@@ -1,6 +1,7 @@
 mod ConditionLemmas
 mod ConditionTyping
 mod DomainLemmas
+mod DomainReading
 mod DurationLemmas
 mod EffectLemmas
 mod EffectTyping
@@ -8,6 +9,7 @@ mod HoldsLemmas
 mod ItemLemmas
 mod KindLemmas
 mod NameLemmas
+mod NameReading
 mod OrderLemmas
 mod SchemaLemmas
 mod SchemaTyping

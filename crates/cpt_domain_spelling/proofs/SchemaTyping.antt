@@ -144,7 +144,7 @@ after_read durative d name items u own =
       name = own;
     })))
 
-name_read : (items : Items) → Holds (λ (n : ℕ × List ℕ × Items). is_name n.1 ≡ true) (name_at items)
+pub name_read : (items : Items) → Holds (λ (n : ℕ × List ℕ × Items). is_name n.1 ≡ true) (name_at items)
 name_read (end close) = tt
 name_read (word at w rest) = holds_if (λ (n : ℕ × List ℕ × Items). is_name n.1 ≡ true) (is_name w) (Ok (at, w, rest)) (Err (faults.Shape at)) (λ is. is) (λ _. tt)
 name_read (group at inside rest) = tt

@@ -27,7 +27,7 @@ use Rattle.cpt_domain.specs.SoundSchemas.{IsApplied, IsLasting}
 use Rattle.cpt_domain_spelling.specs.Names.{named}
 use Rattle.cpt_domain_spelling.specs.Siblings.{IsArranged, Siblings, siblings_nest}
 use Rattle.cpt_domain_spelling.specs.Saying.{says}
-use Rattle.cpt_domain_spelling.specs.Spellable.{AreDistinct, AreUnreserved, AreOfTypes, HasSpelling, IsSoundOver, IsSpellable, IsTyped, IsTypedLasting}
+use Rattle.cpt_domain_spelling.specs.Spellable.{AreDistinct, AreUnreserved, AreOfTypes, HasSpelling, IsSoundOver, IsSpellable, IsTyped, IsTypedLasting, IsWellFormed}
 use Rattle.cpt_domain_spelling.specs.Spelling.{action_nest, conditions_nest, domain_nest, duration_nest, effects_nest, parameters_of, signatures_nest, terms_nest, typed_nest}
 
 -- a typed list that says different names with their types, each of one of these types, is read as them
@@ -98,3 +98,7 @@ DomainsReadBack =
 abbrev pub ReadActionsAreTyped : Type 0
 ReadActionsAreTyped =
     (durative : Bool) (d : Declared) (known : List (List ℕ)) (items : Items) (s : Schema) → AreUnreserved d.predicates.names → schema_in durative d known items ≡ Ok s → IsTyped d s
+
+-- each domain that is read is well formed
+abbrev pub ReadDomainsAreWellFormed : Type 0
+ReadDomainsAreWellFormed = (d : Domain) (forest : ForestShape) → domain_of forest ≡ Ok d → IsWellFormed d

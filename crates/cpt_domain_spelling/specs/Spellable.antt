@@ -91,18 +91,22 @@ pub record IsTyped (declared : Declared) (s : Schema) : Type 0 where
 abbrev pub IsSoundOver : Declared → Schema → Type 0
 IsSoundOver d s = IsSoundSchema (length d.types.names) (length d.constants.names) d.predicates.kinds d.functions.kinds s
 
--- A domain has a spelling, with its types in these groups: it is sound; its names begin with letters, and those of
--- its predicates are no reserved words; object is its first type, and the others stand in these groups with the numbers
--- that they have; and the atoms of its actions have terms of the types that are wanted, and names that can stand there.
-pub record IsSpellable (d : Domain) (groups : List Siblings) : Type 0 where
-  pub sound : IsSound d
+-- The names of a domain begin with letters, and those of its predicates are no reserved words; object is its first
+-- type; and the atoms of its actions have terms of the types that are wanted, and names that can stand there.
+pub record IsWellFormed (d : Domain) : Type 0 where
   pub name : is_name d.name ≡ true
   pub types : AreNames (declared_of d).types.names
   pub object : named (declared_of d).types.names 0 ≡ codes "object"
-  pub arranged : IsArranged (declared_of d).types.parents groups
   pub constants : AreNames (declared_of d).constants.names
   pub predicates : AreNames (declared_of d).predicates.names
   pub unreserved : AreUnreserved (declared_of d).predicates.names
   pub functions : AreNames (declared_of d).functions.names
   pub actions : AreNames (map (λ (s : Schema). s.name) d.schemas)
   pub typed : All (IsTyped (declared_of d)) d.schemas
+
+-- a domain has a spelling, with its types in these groups: it is sound and well formed, and its types but object stand
+-- in these groups with the numbers that they have
+pub record IsSpellable (d : Domain) (groups : List Siblings) : Type 0 where
+  pub sound : IsSound d
+  pub formed : IsWellFormed d
+  pub arranged : IsArranged (declared_of d).types.parents groups

@@ -1,6 +1,6 @@
 //! The laws.
 
-ghost use Rattle.cpt_domain_spelling.specs.Laws.{ActionsReadBack, ConditionsReadBack, DomainsReadBack, DurationsReadBack, EffectsReadBack, FunctionsReadBack, PredicatesReadBack, ReadActionsAreTyped, TermsReadBack, TypedListsReadBack, TypesReadBack};
+ghost use Rattle.cpt_domain_spelling.specs.Laws.{ActionsReadBack, ConditionsReadBack, DomainsReadBack, DurationsReadBack, EffectsReadBack, FunctionsReadBack, PredicatesReadBack, ReadActionsAreTyped, ReadDomainsAreWellFormed, TermsReadBack, TypedListsReadBack, TypesReadBack};
 ghost use Rattle.cpt_domain_spelling.specs.Siblings.{LesserParentsStand};
 ghost use Rattle.cpt_domain_spelling.specs.Texts.{TextsReadBack};
 
@@ -71,4 +71,10 @@ pub fn lesser_parents_stand()
 /// where they stand.
 pub fn read_actions_are_typed()
     ensures { ReadActionsAreTyped }
+{}
+
+/// Each domain that is read is well formed: its names begin with letters, and those of its predicates are no reserved
+/// words; `object` is its first type; and its actions are typed.
+pub fn read_domains_are_well_formed()
+    ensures { ReadDomainsAreWellFormed }
 {}
