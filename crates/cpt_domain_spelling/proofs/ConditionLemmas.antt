@@ -12,6 +12,7 @@ use Rattle.cpt_pddl.specs.declared.typed.Typed.{Typed}
 use Rattle.cpt_pddl.specs.Items.{Items, end, word}
 use Rattle.cpt_pddl.specs.Reading.{group_at, nothing}
 use Rattle.cpt_pddl.specs.Words.{head_of}
+use Rattle.cpt_declared.specs.Signatures.{is_reserved}
 use Rattle.cpt_declared.specs.declared.declared.Declared.{Declared}
 use Rattle.cpt_schema.specs.declared.conditions.Test.{Test}
 use Rattle.cpt_schema.specs.declared.schemas.Schema.{Schema}
@@ -20,7 +21,7 @@ use Rattle.cpt_schema.specs.Conditions.{Conds, absent_atom, after_all, condition
 use Rattle.cpt_schema.specs.Schemas.{no_conds}
 use Rattle.cpt_domain.specs.SoundSchemas.{IsTest}
 use Rattle.cpt_domain_spelling.specs.Saying.{says}
-use Rattle.cpt_domain_spelling.specs.Spellable.{HasSpelling, IsSoundOver, IsTyped, is_free}
+use Rattle.cpt_domain_spelling.specs.Spellable.{HasSpelling, IsFreeAtom, IsSoundOver, IsTyped, is_free}
 use Rattle.cpt_domain_spelling.specs.Names.{named}
 use Rattle.cpt_domain_spelling.specs.Spelling.{atom_nest, atoms_then, conditions_nest, equation_nest, parameters_of, signed_nest, term_word, tests_nest}
 use Rattle.cpt_domain_spelling.proofs.ItemLemmas.{bound, end_there, group_there, word_there}
@@ -58,32 +59,32 @@ present_by d params c atom at bytes rest all (Untaken which) e = cc
 present_by d params c atom at bytes rest all Numeric e = cc
 present_by d params c atom at bytes rest all Other e = refl
 
-absent_by : (d : Declared) (params : Typed) (c : Conds) (not_at atom at : ℕ) (bytes : List ℕ) (rest : Items) (h : Head) → is_free h ≡ true
+absent_by : (d : Declared) (params : Typed) (c : Conds) (not_at atom at : ℕ) (bytes : List ℕ) (rest : Items) (h : Head) → is_reserved h ≡ false
     → negated_by d params c not_at atom at bytes rest h ≡ absent_atom d params c atom at bytes rest
 absent_by d params c not_at atom at bytes rest And e = cc
 absent_by d params c not_at atom at bytes rest Not e = cc
 absent_by d params c not_at atom at bytes rest Equal e = cc
 absent_by d params c not_at atom at bytes rest At e = refl
-absent_by d params c not_at atom at bytes rest Over e = cc
+absent_by d params c not_at atom at bytes rest Over e = refl
 absent_by d params c not_at atom at bytes rest (Untaken which) e = cc
-absent_by d params c not_at atom at bytes rest Numeric e = cc
+absent_by d params c not_at atom at bytes rest Numeric e = refl
 absent_by d params c not_at atom at bytes rest Other e = refl
 
-pub predicate_free : (d : Declared) (params : List ℕ) (lit : Lit) → HasSpelling d → AtomOf d params lit → is_free (head_of (named d.predicates.names lit.pred)) ≡ true
-predicate_free d params lit h a =
+predicate_unreserved : (d : Declared) (params : List ℕ) (lit : Lit) → HasSpelling d → AtomOf d params lit → is_reserved (head_of (named d.predicates.names lit.pred)) ≡ false
+predicate_unreserved d params lit h a =
     let lt = a.sound.known in
     let lengths = h.sound.predicates.lengths in
-    h.free lit.pred [] (omega (arith, lt, lengths))
+    h.unreserved lit.pred [] (omega (arith, lt, lengths))
 
 module _ (d : Declared) (params : List ℕ) (h : HasSpelling d) (few : length params ≤ 16) where
   -- an atom that is to be there
-  present_back : (c : Conds) (at : ℕ) (lit : Lit) (items : Items) → AtomOf d params lit → length c.pre + length c.absent < 64 → says items ≡ atom_nest d lit
+  present_back : (c : Conds) (at : ℕ) (lit : Lit) (items : Items) → AtomOf d params lit → IsFreeAtom d lit → length c.pre + length c.absent < 64 → says items ≡ atom_nest d lit
       → condition_in d (parameters_of params) c at items ≡ Ok (conds (c.pre ++ lit ∷ []) c.absent c.tests)
   unfolding present
-  present_back c at lit items a room said =
+  present_back c at lit items a free room said =
       let w = word_there items (named d.predicates.names lit.pred) _ said in
       ap (condition_in d (parameters_of params) c at) w.is
-      ∙ present_by d (parameters_of params) c at w.at (named d.predicates.names lit.pred) w.more _ (head_of (named d.predicates.names lit.pred)) (predicate_free d params lit h a)
+      ∙ present_by d (parameters_of params) c at w.at (named d.predicates.names lit.pred) w.more _ (head_of (named d.predicates.names lit.pred)) free
       ∙ bound _ (atom_back d params (is_full c) at w.at lit w.more h few (lt-leb 64 (length c.pre + length c.absent) room) a w.said) refl
 
   -- an atom that is to be absent
@@ -99,7 +100,7 @@ module _ (d : Declared) (params : List ℕ) (h : HasSpelling d) (few : length pa
       ∙ ap (condition_by d (parameters_of params) c at w.at (codes "not") w.more (conditions_in d (parameters_of params) c w.more)) head_not
       ∙ bound _ (ap group_at g.is)
       (bound _ (ap (negated_group d (parameters_of params) c at g.at) p.is
-      ∙ absent_by d (parameters_of params) c at g.at p.at (named d.predicates.names lit.pred) p.more (head_of (named d.predicates.names lit.pred)) (predicate_free d params lit h a)
+      ∙ absent_by d (parameters_of params) c at g.at p.at (named d.predicates.names lit.pred) p.more (head_of (named d.predicates.names lit.pred)) (predicate_unreserved d params lit h a)
       ∙ bound _ (atom_back d params (is_full c) g.at p.at lit p.more h few (lt-leb 64 (length c.pre + length c.absent) room) a p.said) refl)
       (bound _ (ap nothing last.is) refl))
 
@@ -140,18 +141,18 @@ module _ (d : Declared) (params : List ℕ) (h : HasSpelling d) (few : length pa
       (bound _ (ap nothing last.is) refl))
 
   -- atoms that are to be there, and then the rest
-  presents_back : (lits all pre absent : List Lit) (tests : List Test) (items : Items) (rest : Nest) (r : Result Conds Fault) → All (AtomOf d params) lits → all ≡ pre ++ lits
+  presents_back : (lits all pre absent : List Lit) (tests : List Test) (items : Items) (rest : Nest) (r : Result Conds Fault) → All (AtomOf d params) lits → All (IsFreeAtom d) lits → all ≡ pre ++ lits
       → length all + length absent ≤ 64 → says items ≡ atoms_then true d lits rest
       → ((more : Items) → says more ≡ rest → conditions_in d (parameters_of params) (conds all absent tests) more ≡ r) → conditions_in d (parameters_of params) (conds pre absent tests) items ≡ r
-  presents_back [] all pre absent tests items rest r a e room said go =
+  presents_back [] all pre absent tests items rest r a free e room said go =
       ap (λ p. conditions_in d (parameters_of params) (conds p absent tests) items) (sym (append-nil pre) ∙ sym e) ∙ go items said
-  presents_back (lit ∷ lits) all pre absent tests items rest r a e room said go =
+  presents_back (lit ∷ lits) all pre absent tests items rest r a free e room said go =
       let g = group_there items _ _ said in
       let total = ap length e in
       let long = length-append pre (lit ∷ lits) in
       ap (conditions_in d (parameters_of params) (conds pre absent tests)) g.is
-      ∙ bound _ (present_back (conds pre absent tests) g.at lit g.inside (All-head (AtomOf d params) lit lits a) (omega (arith, total, long, room)) g.within)
-      (presents_back lits all (pre ++ lit ∷ []) absent tests g.more rest r (All-tail (AtomOf d params) lit lits a) (e ∙ sym (append_assoc pre (lit ∷ []) lits)) room g.said go)
+      ∙ bound _ (present_back (conds pre absent tests) g.at lit g.inside (All-head (AtomOf d params) lit lits a) (All-head (IsFreeAtom d) lit lits free) (omega (arith, total, long, room)) g.within)
+      (presents_back lits all (pre ++ lit ∷ []) absent tests g.more rest r (All-tail (AtomOf d params) lit lits a) (All-tail (IsFreeAtom d) lit lits free) (e ∙ sym (append_assoc pre (lit ∷ []) lits)) room g.said go)
 
   -- atoms that are to be absent, and then the rest
   absents_back : (lits all pre absent : List Lit) (tests : List Test) (items : Items) (rest : Nest) (r : Result Conds Fault) → All (AtomOf d params) lits → all ≡ absent ++ lits
@@ -188,7 +189,7 @@ conditions_back d s at items h sound typed said =
     let room = sound.few_conditions in
     ap (condition_in d (parameters_of s.kinds) no_conds at) w.is
     ∙ ap (condition_by d (parameters_of s.kinds) no_conds at w.at (codes "and") w.more (conditions_in d (parameters_of s.kinds) no_conds w.more)) head_and
-    ∙ presents_back d s.kinds h few s.pre s.pre [] [] [] w.more _ _ (λ k x lt. record { sound = sound.pre k x lt; typed = typed.pre k x lt }) refl (omega (arith, room)) w.said
+    ∙ presents_back d s.kinds h few s.pre s.pre [] [] [] w.more _ _ (λ k x lt. record { sound = sound.pre k x lt; typed = typed.pre k x lt }) typed.free_pre refl (omega (arith, room)) w.said
     (λ next e. absents_back d s.kinds h few s.absent s.absent s.pre [] [] next _ _ (λ k x lt. record { sound = sound.absent k x lt; typed = typed.absent k x lt }) refl room e
     (λ last f. tests_back d s.kinds h few s.tests s.tests [] s.pre s.absent last sound.tests refl f))
 

@@ -111,7 +111,7 @@ unfolding with_declared
 predicates_part d at items h said =
     let w = word_there items (codes ":predicates") _ said in
     ap (part_in (behind_constants d) at) w.is ∙ ap (part_by (behind_constants d) at w.at w.more) key_predicates
-    ∙ bound _ (bound _ (predicates_back d.types.names d.predicates w.more h.types h.predicates h.free h.sound.predicates w.said) refl) refl
+    ∙ bound _ (bound _ (predicates_back d.types.names d.predicates w.more h.types h.predicates h.unreserved h.sound.predicates w.said) refl) refl
 
 functions_part : (d : Declared) (at : ℕ) (items : Items) → HasSpelling d → says items ≡ nest.name (codes ":functions") (signatures_nest d.types.names d.functions.names d.functions.kinds)
     → part_in (behind_predicates d) at items ≡ Ok (part d [] [] false)
@@ -197,12 +197,12 @@ declared_spelled d groups h =
           variables = subst (λ n. All (AreVariables n) (function_kinds d)) types fit.function_variables;
         };
       };
-      types = record { names = h.types; different = h.sound.names.types };
-      object = h.object;
-      constants = record { names = h.constants; different = h.sound.names.constants };
-      predicates = record { names = h.predicates; different = h.sound.names.predicates };
-      free = h.free;
-      functions = record { names = h.functions; different = h.sound.names.functions };
+      types = record { names = h.formed.types; different = h.sound.names.types };
+      object = h.formed.object;
+      constants = record { names = h.formed.constants; different = h.sound.names.constants };
+      predicates = record { names = h.formed.predicates; different = h.sound.names.predicates };
+      unreserved = h.formed.unreserved;
+      functions = record { names = h.formed.functions; different = h.sound.names.functions };
     }
 
 pub actions_sound : (d : Domain) (groups : List Siblings) → IsSpellable d groups → All (IsSoundOver (declared_of d)) d.schemas
@@ -245,7 +245,7 @@ parts_back d groups items h said =
     let k = declared_of d in
     let spelled = declared_spelled d groups h in
     sections_back k groups items (actions_nest k d.schemas) _ spelled h.arranged said
-    (λ more e. actions_back k d.schemas [] d.schemas [] (names_of d.schemas) false more spelled (actions_sound d groups h) h.typed h.actions h.sound.names.actions refl refl e)
+    (λ more e. actions_back k d.schemas [] d.schemas [] (names_of d.schemas) false more spelled (actions_sound d groups h) h.formed.typed h.formed.actions h.sound.names.actions refl refl e)
 
 -- items that say the spelling of a domain are read as the domain
 pub items_back : (d : Domain) (groups : List Siblings) (items : Items) → IsSpellable d groups → says items ≡ domain_nest d groups → domain_in items ≡ Ok d
@@ -260,7 +260,7 @@ items_back d groups items h said =
     let last = end_there g.more g.said in
     bound _ (ap group_at g.is)
     (bound _ (bound _ (ap (after_word (codes "define")) w.is) (bound _ (ap group_at head.is)
-    (bound _ (bound _ (ap (after_word (codes "domain")) v.is) (bound _ (ap name_at n.is ∙ when _ _ h.name) (bound _ (ap nothing stop.is) refl)))
+    (bound _ (bound _ (ap (after_word (codes "domain")) v.is) (bound _ (ap name_at n.is ∙ when _ _ h.formed.name) (bound _ (ap nothing stop.is) refl)))
     (bound _ (parts_back d groups head.more h head.said) (ap (λ x. Ok x) (whole d (names_of d.schemas) (acted false d.schemas)))))))
     (bound _ (ap nothing last.is) refl))
 

@@ -21,10 +21,10 @@ use Rattle.cpt_schema.specs.declared.terms.Lit.{Lit}
 use Rattle.cpt_schema.specs.Effects.{Effs, add_atom, delete_atom, delete_group, deletion, effect_by, effect_in, effects_in, tag_next, tagged_effect, timed_effect_by, timed_effect_in}
 use Rattle.cpt_schema.specs.Schemas.{lits_of, no_effs}
 use Rattle.cpt_domain_spelling.specs.Saying.{says}
-use Rattle.cpt_domain_spelling.specs.Spellable.{HasSpelling, IsSoundOver, IsTyped, is_free}
+use Rattle.cpt_domain_spelling.specs.Spellable.{HasSpelling, IsFreeAtom, IsSoundOver, IsTyped, is_free}
 use Rattle.cpt_domain_spelling.specs.Names.{named}
 use Rattle.cpt_domain_spelling.specs.Spelling.{atom_nest, atoms_then, effects_nest, parameters_of, signed_nest}
-use Rattle.cpt_domain_spelling.proofs.ConditionLemmas.{head_and, head_not, predicate_free}
+use Rattle.cpt_domain_spelling.proofs.ConditionLemmas.{head_and, head_not}
 use Rattle.cpt_domain_spelling.proofs.ItemLemmas.{bound, end_there, group_there, word_there}
 use Rattle.cpt_domain_spelling.proofs.TermLemmas.{AtomOf, atom_back}
 
@@ -62,13 +62,13 @@ added_by d params tag e atom at bytes rest all Other f = refl
 
 module _ (d : Declared) (params : List ℕ) (tag : ℕ) (h : HasSpelling d) (few : length params ≤ 16) where
   -- an atom that is added at the end
-  add_back : (adds dels : List Effect) (at : ℕ) (lit : Lit) (items : Items) → AtomOf d params lit → length adds < 64 → says items ≡ atom_nest d lit
+  add_back : (adds dels : List Effect) (at : ℕ) (lit : Lit) (items : Items) → AtomOf d params lit → IsFreeAtom d lit → length adds < 64 → says items ≡ atom_nest d lit
       → effect_in d (parameters_of params) (End tag) (effs adds dels) at items ≡ Ok (effs (adds ++ record { lit = lit; marked = false } ∷ []) dels)
   unfolding add_atom
-  add_back adds dels at lit items a room said =
+  add_back adds dels at lit items a free room said =
       let w = word_there items (named d.predicates.names lit.pred) _ said in
       ap (effect_in d (parameters_of params) (End tag) (effs adds dels) at) w.is
-      ∙ added_by d (parameters_of params) (End tag) (effs adds dels) at w.at (named d.predicates.names lit.pred) w.more _ (head_of (named d.predicates.names lit.pred)) (predicate_free d params lit h a)
+      ∙ added_by d (parameters_of params) (End tag) (effs adds dels) at w.at (named d.predicates.names lit.pred) w.more _ (head_of (named d.predicates.names lit.pred)) free
       ∙ bound _ (atom_back d params (nat_le 64 (length adds)) at w.at lit w.more h few (lt-leb 64 (length adds) room) a w.said) refl
 
   -- an atom that is deleted at the end, before any that is added
@@ -88,19 +88,19 @@ module _ (d : Declared) (params : List ℕ) (tag : ℕ) (h : HasSpelling d) (few
       (bound _ (ap nothing last.is) refl))
 
   -- atoms that are added, to the end
-  adds_back : (lits : List Lit) (all adds dels : List Effect) (items : Items) → All (AtomOf d params) lits → all ≡ adds ++ marks false lits → length all ≤ 64
+  adds_back : (lits : List Lit) (all adds dels : List Effect) (items : Items) → All (AtomOf d params) lits → All (IsFreeAtom d) lits → all ≡ adds ++ marks false lits → length all ≤ 64
       → says items ≡ atoms_then true d lits nest.nothing → effects_in d (parameters_of params) (End tag) (effs adds dels) items ≡ Ok (effs all dels)
-  adds_back [] all adds dels items a e room said =
+  adds_back [] all adds dels items a free e room said =
       let last = end_there items said in
       ap (effects_in d (parameters_of params) (End tag) (effs adds dels)) last.is ∙ ap (λ es. Ok (effs es dels)) (sym (append-nil adds) ∙ sym e)
-  adds_back (lit ∷ lits) all adds dels items a e room said =
+  adds_back (lit ∷ lits) all adds dels items a free e room said =
       let g = group_there items _ _ said in
       let one : Effect = record { lit = lit; marked = false } in
       let total = ap length e in
       let long = length-append adds (one ∷ marks false lits) in
       ap (effects_in d (parameters_of params) (End tag) (effs adds dels)) g.is
-      ∙ bound _ (add_back adds dels g.at lit g.inside (All-head (AtomOf d params) lit lits a) (omega (arith, total, long, room)) g.within)
-      (adds_back lits all (adds ++ one ∷ []) dels g.more (All-tail (AtomOf d params) lit lits a) (e ∙ sym (append_assoc adds (one ∷ []) (marks false lits))) room g.said)
+      ∙ bound _ (add_back adds dels g.at lit g.inside (All-head (AtomOf d params) lit lits a) (All-head (IsFreeAtom d) lit lits free) (omega (arith, total, long, room)) g.within)
+      (adds_back lits all (adds ++ one ∷ []) dels g.more (All-tail (AtomOf d params) lit lits a) (All-tail (IsFreeAtom d) lit lits free) (e ∙ sym (append_assoc adds (one ∷ []) (marks false lits))) room g.said)
 
   -- atoms that are deleted, and then the rest
   deletes_back : (lits : List Lit) (all dels : List Effect) (items : Items) (rest : Nest) (r : Result Effs Fault) → All (AtomOf d params) lits → all ≡ dels ++ marks true lits → length all ≤ 64
@@ -140,7 +140,7 @@ effects_back d s at items h sound typed said =
     (bound _ (ap (effect_in d (parameters_of s.kinds) (End at) no_effs g.at) a.is
     ∙ ap (effect_by d (parameters_of s.kinds) (End at) no_effs g.at a.at (codes "and") a.more (effects_in d (parameters_of s.kinds) (End at) no_effs a.more)) head_and
     ∙ deletes_back d s.kinds at h few s.dele (marks true s.dele) [] a.more _ _ (λ k x lt. record { sound = sound.dele k x lt; typed = typed.dele k x lt }) refl (omega (arith, dels, few_dels)) a.said
-    (λ more e. adds_back d s.kinds at h few s.add (marks false s.add) [] (marks true s.dele) more (λ k x lt. record { sound = sound.add k x lt; typed = typed.add k x lt }) refl (omega (arith, adds, few_adds)) e))
+    (λ more e. adds_back d s.kinds at h few s.add (marks false s.add) [] (marks true s.dele) more (λ k x lt. record { sound = sound.add k x lt; typed = typed.add k x lt }) typed.free_add refl (omega (arith, adds, few_adds)) e))
     (bound _ (ap nothing last.is) refl)))
 
 -- and their atoms are those that the action adds and deletes

@@ -84,7 +84,7 @@ adopted_at p (k ∷ ks) qs j lt =
           ∙ ap (λ t. if t then p else get_or qs j 0) (sym (unless _ _ (ne_eqb k j ne)))
     ]
 
-below_length : (p : ℕ) (ks qs : List ℕ) → length (below_parent p ks qs) ≡ length qs
+pub below_length : (p : ℕ) (ks qs : List ℕ) → length (below_parent p ks qs) ≡ length qs
 below_length zero ks qs = refl
 below_length (suc p) ks qs = ap length (unless _ _ (ne_eqb (suc p) 0 (omega arith))) ∙ adopted_length (suc p) ks qs
 

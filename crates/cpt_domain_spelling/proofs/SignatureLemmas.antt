@@ -19,7 +19,7 @@ use Rattle.cpt_declared.specs.Signatures.{function_at, functions_end, functions_
 use Rattle.cpt_domain.specs.SoundKinds.{AreSignatures, AreVariables}
 use Rattle.cpt_domain.specs.SoundNames.{AreDifferent}
 use Rattle.cpt_domain_spelling.specs.Saying.{says}
-use Rattle.cpt_domain_spelling.specs.Spellable.{AreDistinct, AreFree, AreNames, is_free}
+use Rattle.cpt_domain_spelling.specs.Spellable.{AreDistinct, AreUnreserved, AreNames, is_free}
 use Rattle.cpt_domain_spelling.specs.Spelling.{signatures_nest, variables_from, variables_nest}
 use Rattle.cpt_domain_spelling.proofs.ItemLemmas.{bound, end_there, group_there, unless, when, word_there}
 use Rattle.cpt_domain_spelling.proofs.NameLemmas.{place_new}
@@ -28,16 +28,6 @@ use Rattle.cpt_domain_spelling.proofs.VariableLemmas.{length_variables, variable
 
 abbrev signatures : List (List ℕ) → List (List ℕ) → Signatures
 signatures names kinds = record { names = names; kinds = kinds }
-
-free_unreserved : (h : Head) → is_free h ≡ true → is_reserved h ≡ false
-free_unreserved And e = cc
-free_unreserved Not e = cc
-free_unreserved Equal e = cc
-free_unreserved At e = refl
-free_unreserved Over e = cc
-free_unreserved (Untaken which) e = cc
-free_unreserved Numeric e = cc
-free_unreserved Other e = refl
 
 -- variables that are said with their types are read as they are
 pub variables_back : (types : List (List ℕ)) (kinds : List ℕ) (items : Items) → AreDistinct types → AreVariables (length types) kinds → says items ≡ variables_nest types kinds
@@ -59,7 +49,7 @@ signature_back sort types sigs w kinds items t free h new v said =
     let a = word_there items w _ said in
     ap (signature sort types sigs) a.is ∙ bound _ (name_back sort sigs.names a.at w free h new) (bound _ (variables_back types kinds a.more t v a.said) refl)
 
-predicates_rest_back : (types all done names whole before kinds : List (List ℕ)) (items : Items) → AreDistinct types → AreDifferent all → AreNames names → AreFree names
+predicates_rest_back : (types all done names whole before kinds : List (List ℕ)) (items : Items) → AreDistinct types → AreDifferent all → AreNames names → AreUnreserved names
     → All (AreVariables (length types)) kinds → all ≡ done ++ names → whole ≡ before ++ kinds → length names ≡ length kinds → says items ≡ signatures_nest types names kinds
     → predicates_in types (signatures done before) items ≡ Ok (signatures all whole)
 predicates_rest_back types all done [] whole before [] items t d h free v e f m said =
@@ -70,17 +60,17 @@ predicates_rest_back types all done [] whole before (k ∷ kinds) items t d h fr
 predicates_rest_back types all done (w ∷ names) whole before [] items t d h free v e f m said = absurd (omega arith)
 predicates_rest_back types all done (w ∷ names) whole before (k ∷ kinds) items t d h free v e f m said =
     let a = group_there items _ _ said in
-    let one = All-head (λ x. is_free (head_of x) ≡ true) w names free in
+    let one = All-head (λ x. is_reserved (head_of x) ≡ false) w names free in
     let own = All-head (λ x. is_name x ≡ true) w names h in
     let first = All-head (AreVariables (length types)) k kinds v in
     ap (predicates_in types (signatures done before)) a.is
-    ∙ bound _ (signature_back Predicates types (signatures done before) w k a.inside t (free_unreserved (head_of w) one) own (place_new done w names (subst AreDifferent e d)) first a.within)
+    ∙ bound _ (signature_back Predicates types (signatures done before) w k a.inside t one own (place_new done w names (subst AreDifferent e d)) first a.within)
     (predicates_rest_back types all (done ++ w ∷ []) names whole (before ++ k ∷ []) kinds a.more t d (All-tail (λ x. is_name x ≡ true) w names h)
-    (All-tail (λ x. is_free (head_of x) ≡ true) w names free) (All-tail (AreVariables (length types)) k kinds v)
+    (All-tail (λ x. is_reserved (head_of x) ≡ false) w names free) (All-tail (AreVariables (length types)) k kinds v)
     (e ∙ sym (append_assoc done (w ∷ []) names)) (f ∙ sym (append_assoc before (k ∷ []) kinds)) (omega arith) a.said)
 
 -- predicates that are said with their variables are read as they are
-pub predicates_back : (types : List (List ℕ)) (sigs : Signatures) (items : Items) → AreDistinct types → AreDistinct sigs.names → AreFree sigs.names → AreSignatures (length types) sigs
+pub predicates_back : (types : List (List ℕ)) (sigs : Signatures) (items : Items) → AreDistinct types → AreDistinct sigs.names → AreUnreserved sigs.names → AreSignatures (length types) sigs
     → says items ≡ signatures_nest types sigs.names sigs.kinds → predicates_in types no_signatures items ≡ Ok sigs
 predicates_back types sigs items t d free h said =
     predicates_rest_back types sigs.names [] sigs.names sigs.kinds [] sigs.kinds items t d.different d.names free h.variables refl refl (sym h.lengths) said

@@ -173,5 +173,5 @@ pub domain_written : (d : Domain) (groups : List Siblings) → IsSpellable d gro
 domain_written d groups h =
     let spelled = declared_spelled d groups h in
     let parts : Written 1 (sections_then (declared_of d) groups (actions_nest (declared_of d) d.schemas)) =
-    sections_written (declared_of d) groups (actions_nest (declared_of d) d.schemas) spelled h.arranged (actions_written (declared_of d) d.schemas spelled (actions_sound d groups h) h.actions) in
-    (omega arith, (refl, (omega arith, (refl, (name_word d.name h.name, tt)), parts)), tt)
+    sections_written (declared_of d) groups (actions_nest (declared_of d) d.schemas) spelled h.arranged (actions_written (declared_of d) d.schemas spelled (actions_sound d groups h) h.formed.actions) in
+    (omega arith, (refl, (omega arith, (refl, (name_word d.name h.formed.name, tt)), parts)), tt)

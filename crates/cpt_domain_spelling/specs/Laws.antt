@@ -1,4 +1,4 @@
-use Rattle.std.specs.Prelude.{◌≡◌, ℕ, ◌<◌, ◌≤◌, true, List, [], length, slice_index_or, All, Ok, None, codes}
+use Rattle.std.specs.Prelude.{◌≡◌, ℕ, Bool, ◌<◌, ◌≤◌, true, List, [], length, slice_index_or, All, Ok, None, codes}
 use Rattle.cpt_sexp.specs.Grammar.{ForestShape}
 use Rattle.cpt_sexp.specs.Printing.{nothing, name, list, nest_of}
 use Rattle.cpt_pddl.specs.declared.typed.Sort.{Sort}
@@ -27,7 +27,7 @@ use Rattle.cpt_domain.specs.SoundSchemas.{IsApplied, IsLasting}
 use Rattle.cpt_domain_spelling.specs.Names.{named}
 use Rattle.cpt_domain_spelling.specs.Siblings.{IsArranged, Siblings, siblings_nest}
 use Rattle.cpt_domain_spelling.specs.Saying.{says}
-use Rattle.cpt_domain_spelling.specs.Spellable.{AreDistinct, AreFree, AreOfTypes, HasSpelling, IsSoundOver, IsSpellable, IsTyped, IsTypedLasting}
+use Rattle.cpt_domain_spelling.specs.Spellable.{AreDistinct, AreUnreserved, AreOfTypes, HasSpelling, IsSoundOver, IsSpellable, IsTyped, IsTypedLasting, IsWellFormed}
 use Rattle.cpt_domain_spelling.specs.Spelling.{action_nest, conditions_nest, domain_nest, duration_nest, effects_nest, parameters_of, signatures_nest, terms_nest, typed_nest}
 
 -- a typed list that says different names with their types, each of one of these types, is read as them
@@ -46,7 +46,7 @@ TypesReadBack =
 -- predicates that are said with their variables are read as they are
 abbrev pub PredicatesReadBack : Type 0
 PredicatesReadBack =
-    (types : List (List ℕ)) (sigs : Signatures) (items : Items) → AreDistinct types → AreDistinct sigs.names → AreFree sigs.names → AreSignatures (length types) sigs →
+    (types : List (List ℕ)) (sigs : Signatures) (items : Items) → AreDistinct types → AreDistinct sigs.names → AreUnreserved sigs.names → AreSignatures (length types) sigs →
     says items ≡ signatures_nest types sigs.names sigs.kinds → predicates_in types no_signatures items ≡ Ok sigs
 
 -- functions that are said with their variables are read as they are
@@ -93,3 +93,12 @@ ActionsReadBack =
 abbrev pub DomainsReadBack : Type 0
 DomainsReadBack =
     (d : Domain) (groups : List Siblings) (forest : ForestShape) → IsSpellable d groups → nest_of forest.text forest.trees ≡ domain_nest d groups → domain_of forest ≡ Ok d
+
+-- each action that is read, durative or not, is typed
+abbrev pub ReadActionsAreTyped : Type 0
+ReadActionsAreTyped =
+    (durative : Bool) (d : Declared) (known : List (List ℕ)) (items : Items) (s : Schema) → AreUnreserved d.predicates.names → schema_in durative d known items ≡ Ok s → IsTyped d s
+
+-- each domain that is read is well formed
+abbrev pub ReadDomainsAreWellFormed : Type 0
+ReadDomainsAreWellFormed = (d : Domain) (forest : ForestShape) → domain_of forest ≡ Ok d → IsWellFormed d

@@ -1,4 +1,4 @@
-use Rattle.std.specs.Prelude.{◌≡◌, ◌≢◌, ℕ, ◌+◌, ◌<◌, ◌≤◌, max, true, List, [], ◌∷◌, ◌++◌, length, All, slice_index, codes}
+use Rattle.std.specs.Prelude.{◌≡◌, ◌≢◌, ℕ, ◌+◌, ◌<◌, ◌≤◌, max, drop, true, List, [], ◌∷◌, ◌++◌, length, All, slice_index, codes}
 use Rattle.cpt_sexp.specs.Printing.{Nest, nothing, name}
 use Rattle.cpt_declared.specs.Kinds.{has}
 use Rattle.cpt_domain_spelling.specs.Names.{named}
@@ -50,3 +50,13 @@ pub record IsArranged (parents : List ℕ) (groups : List Siblings) : Type 0 whe
   pub once : NoneTwice (entries groups)
   pub whole : (kind : ℕ) → 0 < kind → kind < length parents → has (entries groups) kind ≡ true
   pub first : AreByFirstPlace 1 (mentions groups)
+
+-- each type alone, with its parent: those with these parents, with the numbers from one on
+abbrev pub one_by_one : ℕ → List ℕ → List Siblings
+one_by_one kind [] = []
+one_by_one kind (parent ∷ parents) = record { kinds = kind ∷ []; parent = parent } ∷ one_by_one (kind + 1) parents
+
+-- where each type but the first has a lesser one for its parent, the types can stand one by one
+abbrev pub LesserParentsStand : Type 0
+LesserParentsStand =
+    (parents : List ℕ) → ((kind : ℕ) → 0 < kind → kind < length parents → slice_index parents kind < kind) → IsArranged parents (one_by_one 1 (drop 1 parents))

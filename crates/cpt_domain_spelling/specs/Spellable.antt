@@ -4,6 +4,7 @@ use Rattle.cpt_pddl.specs.declared.words.Head.{Head}
 use Rattle.cpt_pddl.specs.declared.words.Head.TheVariants.{And, Not, Equal, At, Over, Untaken, Numeric, Other}
 use Rattle.cpt_pddl.specs.Kinds.{is_below}
 use Rattle.cpt_pddl.specs.Words.{head_of, is_name}
+use Rattle.cpt_declared.specs.Signatures.{is_reserved}
 use Rattle.cpt_declared.specs.declared.declared.Declared.{Declared}
 use Rattle.cpt_declared.specs.declared.kinds.Kinds.{Kinds}
 use Rattle.cpt_schema.specs.declared.durations.Lasting.{Lasting}
@@ -41,8 +42,9 @@ is_free (Untaken which) = false
 is_free Numeric = false
 is_free Other = true
 
-abbrev pub AreFree : List (List ℕ) → Type 0
-AreFree words = All (λ w. is_free (head_of w) ≡ true) words
+-- none of these words is a reserved one
+abbrev pub AreUnreserved : List (List ℕ) → Type 0
+AreUnreserved words = All (λ w. is_reserved (head_of w) ≡ false) words
 
 -- what is declared is sound, and has a spelling
 pub record HasSpelling (d : Declared) : Type 0 where
@@ -51,7 +53,7 @@ pub record HasSpelling (d : Declared) : Type 0 where
   pub object : named d.types.names 0 ≡ codes "object"
   pub constants : AreDistinct d.constants.names
   pub predicates : AreDistinct d.predicates.names
-  pub free : AreFree d.predicates.names
+  pub unreserved : AreUnreserved d.predicates.names
   pub functions : AreDistinct d.functions.names
 
 -- the type of a term, where the parameters have these types
@@ -70,30 +72,41 @@ abbrev pub IsTypedLasting : Declared → List ℕ → Lasting → Type 0
 IsTypedLasting declared params (Fixed n) = Unit {0}
 IsTypedLasting declared params (Value func terms) = AreOfTypes declared params (slice_index_or declared.functions.kinds func []) terms
 
--- the terms of an action are of the types that are wanted
+-- the name of an atom begins an atom wherever it stands
+abbrev pub IsFreeAtom : Declared → Lit → Type 0
+IsFreeAtom declared lit = is_free (head_of (named declared.predicates.names lit.pred)) ≡ true
+
+-- the terms of an action are of the types that are wanted, and the names of the atoms that are to be there or are added
+-- begin no other condition or effect
 pub record IsTyped (declared : Declared) (s : Schema) : Type 0 where
   pub dur : IsTypedLasting declared s.kinds s.dur
   pub pre : All (IsTypedAtom declared s.kinds) s.pre
   pub absent : All (IsTypedAtom declared s.kinds) s.absent
   pub add : All (IsTypedAtom declared s.kinds) s.add
   pub dele : All (IsTypedAtom declared s.kinds) s.dele
+  pub free_pre : All (IsFreeAtom declared) s.pre
+  pub free_add : All (IsFreeAtom declared) s.add
 
 -- an action is sound, over what is declared
 abbrev pub IsSoundOver : Declared → Schema → Type 0
 IsSoundOver d s = IsSoundSchema (length d.types.names) (length d.constants.names) d.predicates.kinds d.functions.kinds s
 
--- A domain has a spelling, with its types in these groups: it is sound; its names begin with letters, and those of
--- its predicates begin no other condition or effect; object is its first type, and the others stand in these groups
--- with the numbers that they have; and the terms of its atoms are of the types that are wanted.
-pub record IsSpellable (d : Domain) (groups : List Siblings) : Type 0 where
-  pub sound : IsSound d
+-- The names of a domain begin with letters, and those of its predicates are no reserved words; object is its first
+-- type; and the atoms of its actions have terms of the types that are wanted, and names that can stand there.
+pub record IsWellFormed (d : Domain) : Type 0 where
   pub name : is_name d.name ≡ true
   pub types : AreNames (declared_of d).types.names
   pub object : named (declared_of d).types.names 0 ≡ codes "object"
-  pub arranged : IsArranged (declared_of d).types.parents groups
   pub constants : AreNames (declared_of d).constants.names
   pub predicates : AreNames (declared_of d).predicates.names
-  pub free : AreFree (declared_of d).predicates.names
+  pub unreserved : AreUnreserved (declared_of d).predicates.names
   pub functions : AreNames (declared_of d).functions.names
   pub actions : AreNames (map (λ (s : Schema). s.name) d.schemas)
   pub typed : All (IsTyped (declared_of d)) d.schemas
+
+-- a domain has a spelling, with its types in these groups: it is sound and well formed, and its types but object stand
+-- in these groups with the numbers that they have
+pub record IsSpellable (d : Domain) (groups : List Siblings) : Type 0 where
+  pub sound : IsSound d
+  pub formed : IsWellFormed d
+  pub arranged : IsArranged (declared_of d).types.parents groups

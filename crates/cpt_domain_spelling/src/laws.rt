@@ -1,6 +1,7 @@
 //! The laws.
 
-ghost use Rattle.cpt_domain_spelling.specs.Laws.{ActionsReadBack, ConditionsReadBack, DomainsReadBack, DurationsReadBack, EffectsReadBack, FunctionsReadBack, PredicatesReadBack, TermsReadBack, TypedListsReadBack, TypesReadBack};
+ghost use Rattle.cpt_domain_spelling.specs.Laws.{ActionsReadBack, ConditionsReadBack, DomainsReadBack, DurationsReadBack, EffectsReadBack, FunctionsReadBack, PredicatesReadBack, ReadActionsAreTyped, ReadDomainsAreWellFormed, TermsReadBack, TypedListsReadBack, TypesReadBack};
+ghost use Rattle.cpt_domain_spelling.specs.Siblings.{LesserParentsStand};
 ghost use Rattle.cpt_domain_spelling.specs.Texts.{TextsReadBack};
 
 /// A typed list that says different names with their types is read as these names and types.
@@ -59,4 +60,21 @@ pub fn domains_read_back()
 /// memory ran out.
 pub fn texts_read_back()
     ensures { TextsReadBack }
+{}
+
+/// Where each type but `object` has a lesser one for its parent, the types of a spelling can stand one by one.
+pub fn lesser_parents_stand()
+    ensures { LesserParentsStand }
+{}
+
+/// Each action that is read, durative or not, has terms of the types that are wanted, and names of atoms that can stand
+/// where they stand.
+pub fn read_actions_are_typed()
+    ensures { ReadActionsAreTyped }
+{}
+
+/// Each domain that is read is well formed: its names begin with letters, and those of its predicates are no reserved
+/// words; `object` is its first type; and its actions are typed.
+pub fn read_domains_are_well_formed()
+    ensures { ReadDomainsAreWellFormed }
 {}
