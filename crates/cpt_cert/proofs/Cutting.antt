@@ -1,5 +1,5 @@
 -- What a cut at a byte says of the words of a line.
-use Rattle.std.proofs.Common.{◌≡◌, ℕ, Bool, true, false, cond, List, [], ◌∷◌, ◌++◌, Option, None, Some, option_map, eqb, refl, ap, ◌∙◌, sym}
+use Rattle.std.proofs.Common.{◌≡◌, ℕ, Bool, true, false, cond, List, [], ◌∷◌, Option, None, Some, option_map, eqb, refl, ap, ◌∙◌}
 use Rattle.cpt_cert.specs.Reading.{glue, words_in, cut}
 
 abbrev longer : ℕ → List ℕ × List ℕ → List ℕ × List ℕ

@@ -1,5 +1,5 @@
 -- What is kept of a line is enough to read it.
-use Rattle.std.proofs.Common.{◌≡◌, ℕ, ◌+◌, ◌-◌, ◌<◌, ◌≤◌, ◌↔◌, ◌⊎◌, inl, inr, List, [], ◌∷◌, ◌++◌, length, take, min, refl, subst, ap, ◌∙◌, sym, arith}
+use Rattle.std.proofs.Common.{◌≡◌, ℕ, ◌≤◌, ◌↔◌, inl, inr, List, [], ◌∷◌, ◌++◌, length, min, refl, subst, ap, ◌∙◌, sym, arith}
 use Rattle.std.proofs.lemmas.Bool.{cases_lt}
 use Rattle.std.proofs.lemmas.List.{take_all, length-take, length-take-le, take-append-le}
 use Rattle.cpt_cert.specs.declared.forms.CertLine.{CertLine}

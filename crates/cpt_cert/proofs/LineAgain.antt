@@ -1,10 +1,8 @@
 -- What is spelled as a line is read as that line.
-use Rattle.std.proofs.Common.{◌≡◌, ℕ, ◌+◌, ◌^◌, ◌<◌, ◌≤◌, Bool, true, false, not, ◌&&◌, eqb, List, [], ◌∷◌, None, Some, codes, map, refl, ap, ◌∙◌, sym, arith}
+use Rattle.std.proofs.Common.{◌≡◌, ℕ, ◌≤◌, true, false, List, [], ◌∷◌, None, Some, codes, refl, arith}
 use Rattle.std.specs.Fmt.{decimal}
-use Rattle.std.proofs.lemmas.Bool.{and_from, ne_eqb}
-use Rattle.cpt_task.specs.declared.span.Span.{Span}
-use Rattle.cpt_sheet.specs.declared.data.Cand.{Cand}
-use Rattle.cpt_sheet.specs.declared.data.Cand.TheVariants.{Tok, Out}
+use Rattle.std.proofs.lemmas.Bool.{ne_eqb}
+use Rattle.cpt_sheet.specs.declared.data.Cand.TheVariants.{Out}
 use Rattle.cpt_sheet.specs.declared.data.Decision.{Decision}
 use Rattle.cpt_sheet.specs.declared.data.Decision.TheVariants.{Join, Bring, Before}
 use Rattle.cpt_sheet.specs.declared.data.Flaw.{Flaw}
@@ -17,12 +15,11 @@ use Rattle.cpt_cert.specs.declared.forms.Version.{Version}
 use Rattle.cpt_cert.specs.declared.forms.Version.TheVariants.{One, Two}
 use Rattle.cpt_cert.specs.declared.forms.Claim.{Claim}
 use Rattle.cpt_cert.specs.declared.forms.Claim.TheVariants as claims
-use Rattle.cpt_cert.specs.declared.forms.Run.{Run}
 use Rattle.cpt_cert.specs.declared.forms.CertLine.{CertLine}
 use Rattle.cpt_cert.specs.declared.forms.CertLine.TheVariants as lines
-use Rattle.cpt_cert.specs.Forms.{IsShort, IsShortStep, IsShortNode, IsShortDecision, IsShortFlaw, IsClaim, IsWritten, capped, capped_step, capped_node, capped_decision, capped_flaw, capped_line, span_word, cand_word, run_word, step_words, node_words, decision_words, flaw_words, claim_words, line_words}
-use Rattle.cpt_cert.specs.Reading.{is_numeral, id_in, number_in, number_to, span_in, cand_in, out_in, is_after_in, alone_number_in, alone_limited_in, alone_span_in, alone_cand_in, alone_out_in, cand_id_in, id_side_in, side_span_in, id_side_span_in, two_ids_in, three_ids_in, two_numbers_in, version_in, spent_in, claim_in, decision_in, flaw_in, node_in, step_in, numbered_in, worded_in, row_in, named_in, line_in}
-use Rattle.cpt_cert.proofs.Joining.{is_solid, are_solid}
+use Rattle.cpt_cert.specs.Forms.{IsShort, IsShortStep, IsShortNode, IsShortDecision, IsShortFlaw, IsClaim, IsWritten, capped_step, capped_node, capped_decision, capped_flaw, capped_line, step_words, node_words, decision_words, flaw_words, claim_words, line_words}
+use Rattle.cpt_cert.specs.Reading.{is_numeral, number_in, alone_number_in, alone_limited_in, alone_span_in, alone_cand_in, alone_out_in, cand_id_in, id_side_in, side_span_in, id_side_span_in, two_ids_in, three_ids_in, two_numbers_in, version_in, spent_in, claim_in, decision_in, flaw_in, node_in, step_in, numbered_in, worded_in, named_in, line_in}
+use Rattle.cpt_cert.proofs.Joining.{are_solid}
 use Rattle.cpt_cert.proofs.Numerals.{number_again, number_solid}
 use Rattle.cpt_cert.proofs.RowRead.{row_again, runs_solid}
 use Rattle.cpt_cert.proofs.WordRead.{id_again, limited_again, span_again, cand_again, out_again, after_again, ahead_again, span_solid, cand_solid}

@@ -1,25 +1,22 @@
 -- Lines that are read, and what they are read as.
-use Rattle.std.proofs.Common.{◌≡◌, ℕ, ◌+◌, ◌^◌, ◌<◌, ◌≤◌, Bool, true, false, not, cond, eqb, inl, inr, List, [], ◌∷◌, None, Some, Option, option_map, map, codes, refl, ap, subst, ◌∙◌, sym, arith}
+use Rattle.std.proofs.Common.{◌≡◌, ℕ, ◌≤◌, true, cond, eqb, inl, inr, List, [], ◌∷◌, None, Some, Option, option_map, map, codes, refl, ap, subst, ◌∙◌, sym, arith}
 use Rattle.std.specs.Fmt.{decimal}
-use Rattle.std.specs.Option.{option_and_then}
 use Rattle.std.specs.Str.{bytes_eq}
 use Rattle.std.proofs.lemmas.Bool.{eqb-false}
 use Rattle.cpt_sheet.specs.declared.data.Decision.{Decision}
 use Rattle.cpt_sheet.specs.declared.data.Decision.TheVariants.{Join, Bring, Before}
 use Rattle.cpt_sheet.specs.declared.data.Flaw.{Flaw}
 use Rattle.cpt_sheet.specs.declared.data.Flaw.TheVariants.{Threat, OpenNeed, Clash}
-use Rattle.cpt_sheet.specs.declared.data.Step.{Step}
 use Rattle.cpt_sheet.specs.declared.data.NodeLine.{NodeLine}
 use Rattle.cpt_sheet.specs.declared.data.NodeLine.TheVariants.{Child, Narrow, Close, Branch, OpenNode}
 use Rattle.cpt_cert.specs.declared.forms.Version.{Version}
 use Rattle.cpt_cert.specs.declared.forms.Version.TheVariants.{One, Two}
 use Rattle.cpt_cert.specs.declared.forms.Claim.{Claim}
 use Rattle.cpt_cert.specs.declared.forms.Claim.TheVariants as claims
-use Rattle.cpt_cert.specs.declared.forms.Run.{Run}
 use Rattle.cpt_cert.specs.declared.forms.CertLine.{CertLine}
 use Rattle.cpt_cert.specs.declared.forms.CertLine.TheVariants as lines
-use Rattle.cpt_cert.specs.Forms.{IsShort, IsClaim, IsShortDecision, IsShortFlaw, IsShortNode, IsWritten, capped, capped_decision, capped_flaw, capped_node, capped_step, capped_line, version_word, claim_words, decision_words, flaw_words, node_words, run_word, line_words}
-use Rattle.cpt_cert.specs.Reading.{◌>>=◌, id_in, number_in, number_to, nothing_in, only_in, two_in, two_ids_in, three_ids_in, two_numbers_in, alone_number_in, alone_limited_in, version_in, spent_in, claim_in, join_of, bring_of, before_of, threat_of, open_of, clash_of, sizes_of, decision_in, flaw_in, node_in, step_in, numbered_in, worded_in, row_in, named_in, line_by, line_in}
+use Rattle.cpt_cert.specs.Forms.{IsShort, IsClaim, IsShortDecision, IsShortFlaw, IsShortNode, IsWritten, capped, capped_decision, capped_flaw, capped_node, capped_line, version_word, claim_words, decision_words, flaw_words, node_words, run_word, line_words}
+use Rattle.cpt_cert.specs.Reading.{◌>>=◌, id_in, number_in, number_to, nothing_in, two_ids_in, three_ids_in, two_numbers_in, alone_number_in, alone_limited_in, version_in, spent_in, claim_in, join_of, bring_of, before_of, threat_of, open_of, clash_of, sizes_of, decision_in, flaw_in, node_in, step_in, numbered_in, worded_in, row_in, named_in, line_by, line_in}
 use Rattle.cpt_cert.proofs.Numerals.{number_some}
 use Rattle.cpt_cert.proofs.Parts.{there, eq_bytes, bind_some, map_some, pick, unless, some_is, nothing_some, alone_some, both_some, each_some}
 use Rattle.cpt_cert.proofs.RowRead.{row_some}

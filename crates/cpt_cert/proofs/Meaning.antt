@@ -1,13 +1,13 @@
 -- What a line's bytes are read as.
-use Rattle.std.proofs.Common.{◌≡◌, ℕ, ◌<◌, ◌≤◌, ◌⊎◌, inl, inr, true, List, [], ◌∷◌, length, take, Option, None, Some, unwrap_or, refl, ap, ◌∙◌, sym, arith}
+use Rattle.std.proofs.Common.{◌≡◌, ℕ, ◌<◌, ◌≤◌, inl, inr, true, List, [], ◌∷◌, length, Option, None, Some, unwrap_or, refl, ap, ◌∙◌, sym, arith}
 use Rattle.cpt_cert.specs.declared.forms.CertLine.{CertLine}
 use Rattle.cpt_cert.specs.declared.forms.CertLine.TheVariants.{Strange}
-use Rattle.cpt_cert.specs.Forms.{IsWritten, line_words, joined, spelled, capped_line, Spells, IsReadAs}
+use Rattle.cpt_cert.specs.Forms.{line_words, joined, capped_line, Spells, IsReadAs}
 use Rattle.cpt_cert.specs.Reading.{words_in, line_in}
 use Rattle.cpt_cert.proofs.Joining.{are_solid, joined_words, words_joined}
 use Rattle.cpt_cert.proofs.LineAgain.{line_again, line_solid}
 use Rattle.cpt_cert.proofs.LineRead.{line_some}
-use Rattle.cpt_cert.proofs.Parts.{there, some_is}
+use Rattle.cpt_cert.proofs.Parts.{some_is}
 
 words_back : (ws : List (List ℕ)) (c : CertLine) → are_solid ws ≡ true → line_in ws ≡ Some c → words_in (joined ws) ≡ ws
 unfolding line_in

@@ -1,5 +1,5 @@
 -- Rows of tables that are read, and what they are read as.
-use Rattle.std.proofs.Common.{◌≡◌, ◌≢◌, ℕ, ◌+◌, ◌^◌, ◌<◌, ◌≤◌, Bool, true, false, not, ◌&&◌, ◌||◌, cond, eqb, ltb, ◌⊎◌, inl, inr, List, [], ◌∷◌, ◌++◌, None, Some, Option, option_map, map, codes, All, refl, ap, subst, ◌∙◌, sym, arith, append_assoc}
+use Rattle.std.proofs.Common.{◌≡◌, ℕ, ◌≤◌, Bool, true, false, not, ◌&&◌, ◌||◌, cond, eqb, ltb, ◌⊎◌, inl, inr, List, [], ◌∷◌, ◌++◌, None, Some, Option, option_map, map, codes, All, refl, ap, subst, ◌∙◌, sym, arith, append_assoc}
 use Rattle.std.specs.Char.{is_ascii_digit}
 use Rattle.std.specs.Fmt.{decimal}
 use Rattle.std.specs.Option.{option_and_then}
@@ -16,7 +16,7 @@ use Rattle.cpt_cert.specs.Reading.{cut, span_in, number_to, row_span, row_span_i
 use Rattle.cpt_cert.specs.Text.{same_span}
 use Rattle.cpt_cert.proofs.Joining.{is_solid, are_solid}
 use Rattle.cpt_cert.proofs.Numerals.{own, number_solid}
-use Rattle.cpt_cert.proofs.Parts.{bind_some, unless, pick, some_is, there}
+use Rattle.cpt_cert.proofs.Parts.{bind_some, unless, some_is, there}
 use Rattle.cpt_cert.proofs.WordRead.{span_some, span_again, limited_some, limited_again, span_solid}
 
 -- no star stands in it

@@ -1,4 +1,4 @@
-use Rattle.std.specs.Prelude.{◌≡◌, ◌≢◌, ℕ, ◌+◌, List, [], ◌∷◌, ◌++◌, length, take, drop, All, Option, None, Some, Result, Ok, Err}
+use Rattle.std.specs.Prelude.{◌≡◌, ◌≢◌, ℕ, ◌+◌, List, [], ◌∷◌, ◌++◌, length, take, All, Option, None, Some, Result, Ok, Err}
 use Rattle.cpt_task.specs.declared.memory.Memory.{Memory}
 use Rattle.cpt_cert.specs.declared.forms.CertLine.{CertLine}
 use Rattle.cpt_cert.specs.Forms.{IsReadAs}

@@ -1,4 +1,4 @@
-use Rattle.std.proofs.Common.{rules, ◌≡◌, ◌-◌, ◌++◌, take, length, List, ℕ, ap, sym, ◌∙◌}
+use Rattle.std.proofs.Common.{rules, ◌≡◌, ◌-◌, ◌++◌, take, length, ℕ, ap}
 use Rattle.cpt_cert.proofs.Keeping.{kept_more}
 use Rattle.cpt_cert.proofs.lines.keep.Goals as goal
 

@@ -1,6 +1,5 @@
-use Rattle.std.proofs.Common.{◌≡◌, ℕ, ◌∷◌, ◌++◌, [], List, Bor, map, refl, ◌∙◌, sym, ap, append_assoc}
+use Rattle.std.proofs.Common.{append_assoc}
 use Rattle.std.proofs.lemmas.List.{map-append}
-use Rattle.cpt_cert.specs.Reading.{words_in}
 use Rattle.cpt_cert.proofs.Cutting.{cut_first, cut_none}
 use Rattle.cpt_cert.proofs.words.words_of.Goals as goal
 

@@ -1,4 +1,4 @@
-use Rattle.std.proofs.Common.{◌≡◌, ◌++◌, List, ℕ, refl, subst, ap, ◌∙◌}
+use Rattle.std.proofs.Common.{◌++◌, List, ℕ, refl, subst, ap, ◌∙◌}
 use Rattle.cpt_cert.specs.Forms.{IsReadAs}
 use Rattle.cpt_cert.specs.Lines.{kept}
 use Rattle.cpt_cert.proofs.Keeping.{cut_open, cut_ends}
