@@ -2,5 +2,18 @@
 #![tactic(auto)]
 
 mod forms;
+mod laws;
+mod lines;
+mod nodes;
+mod reading;
+mod rows;
+mod steps;
+mod words;
 
 pub use forms::{Cert, CertLine, Claim, Run, Version};
+pub use laws::{enough_is_kept, one_reading};
+pub use lines::Lines;
+pub use reading::read_line;
+
+#[cfg(test)]
+mod tests;

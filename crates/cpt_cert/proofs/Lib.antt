@@ -1,0 +1,12 @@
+pub mod Cutting
+pub mod Enough
+pub mod Joining
+pub mod Keeping
+pub mod LineAgain
+pub mod LineRead
+pub mod Meaning
+pub mod Numerals
+pub mod Parts
+pub mod RowRead
+pub mod StepRead
+pub mod WordRead
