@@ -1,4 +1,5 @@
 pub mod Back
+pub mod Feedless
 pub mod OneOutcome
 pub mod OneReading
 pub mod OneText

@@ -15,7 +15,8 @@ use Rattle.cpt_verdict.specs.Accepting.{IsInOrder, Proves, IsCertificate, Accept
 use Rattle.cpt_verdict.specs.Reading.{Outcome}
 use Rattle.cpt_verdict.specs.Reading.Outcome.{went}
 use Rattle.cpt_verdict.specs.Descent.{ReadsAll}
-use Rattle.cpt_verdict.specs.Texts.{AreLinesOf}
+use Rattle.cpt_verdict.specs.Texts.{AreLinesOf, FirstFault}
+use Rattle.cpt_verdict.specs.declared.faults.Why.{Why}
 
 -- what a claim says of a task, where it comes with a plan
 abbrev pub HoldsOf : TaskShape → Claim → List Occ → Type 0
@@ -65,3 +66,20 @@ WholeLines =
 abbrev pub WholeTexts : Type 0
 WholeTexts =
     (t : TaskShape) (text : List ℕ) (ls : List CertLine) (v : Version) (claim : Claim) (m : ℕ) → InBounds t → AreLinesOf text ls → ReadsAll t ls (went (v, claim) [] m) → Accepts t text v claim
+
+-- a certificate's lines are read whole
+abbrev pub CertificatesRead : Type 0
+CertificatesRead =
+    (t : TaskShape) (text : List ℕ) (v : Version) (claim : Claim) → InBounds t → Accepts t text v claim → (ls : List CertLine) × AreLinesOf text ls × ((m : ℕ) × ReadsAll t ls (went (v, claim) [] m))
+
+-- a text has at most one first fault
+abbrev pub OneFault : Type 0
+OneFault = (t : TaskShape) (text : List ℕ) (line also : ℕ) (why other : Why) → FirstFault t text line why → FirstFault t text also other → (line ≡ also) × (why ≡ other)
+
+-- a certificate has no fault
+abbrev pub NoFault : Type 0
+NoFault = (t : TaskShape) (text : List ℕ) (v : Version) (claim : Claim) (line : ℕ) (why : Why) → InBounds t → Accepts t text v claim → FirstFault t text line why → ⊥
+
+-- a text has at most one version and claim
+abbrev pub OneClaim : Type 0
+OneClaim = (t : TaskShape) (text : List ℕ) (v w : Version) (claim also : Claim) → InBounds t → Accepts t text v claim → Accepts t text w also → (v ≡ w) × (claim ≡ also)

@@ -1,6 +1,6 @@
 //! The laws: their contracts are what they say, and their bodies are empty.
 
-ghost use Rattle.cpt_verdict.specs.Laws.{CertificatesHold, OneOutcome, WholeLines, WholeTexts};
+ghost use Rattle.cpt_verdict.specs.Laws.{CertificatesHold, CertificatesRead, NoFault, OneClaim, OneFault, OneOutcome, WholeLines, WholeTexts};
 
 /// Whatever text is a certificate of a task, its claim holds: its plan is optimal with the claimed makespan, no valid
 /// plan has a makespan of at most the refuted bound, or there is no valid plan.
@@ -21,4 +21,24 @@ pub fn whole_lines()
 /// A text whose lines are read whole, without a fault, is a certificate of the task.
 pub fn whole_texts()
     ensures { WholeTexts }
+{}
+
+/// The lines of a certificate are read whole, without a fault.
+pub fn certificates_read()
+    ensures { CertificatesRead }
+{}
+
+/// A text has at most one first fault.
+pub fn one_fault()
+    ensures { OneFault }
+{}
+
+/// A certificate has no fault.
+pub fn no_fault()
+    ensures { NoFault }
+{}
+
+/// A text has at most one version and claim.
+pub fn one_claim()
+    ensures { OneClaim }
 {}

@@ -6,4 +6,7 @@ mod faults;
 mod laws;
 
 pub use faults::Why;
-pub use laws::{certificates_hold, one_outcome, whole_lines, whole_texts};
+pub use laws::{
+    certificates_hold, certificates_read, no_fault, one_claim, one_fault, one_outcome, whole_lines,
+    whole_texts,
+};
