@@ -1,3 +1,5 @@
 pub mod Forms
+pub mod Items
 pub mod Lines
 pub mod Text
+pub mod Whole

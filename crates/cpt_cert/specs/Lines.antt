@@ -1,4 +1,4 @@
-use Rattle.std.specs.Prelude.{◌≡◌, ◌≢◌, ℕ, ◌+◌, List, [], ◌∷◌, ◌++◌, length, take, drop, All, Option, None, Some, Result, Ok, Err}
+use Rattle.std.specs.Prelude.{◌≡◌, ◌≢◌, ℕ, ◌+◌, List, [], ◌∷◌, ◌++◌, length, take, All, Option, None, Some, Result, Ok, Err}
 use Rattle.cpt_task.specs.declared.memory.Memory.{Memory}
 use Rattle.cpt_cert.specs.declared.forms.CertLine.{CertLine}
 use Rattle.cpt_cert.specs.Forms.{IsReadAs}
@@ -15,7 +15,7 @@ HasNoEnd bytes = All (λ b. b ≢ 10) bytes
 pub record Finishes (before piece body : List ℕ) (line : CertLine) : Type 0 where
   pub rest : List ℕ
   pub piece_is : piece ≡ body ++ 10 ∷ rest
-  pub open : HasNoEnd body
+  pub unended : HasNoEnd body
   pub read : IsReadAs (kept (before ++ body)) line
 
 -- What a reader of lines does with a piece, where these bytes stand since the last line end before and after: it takes

@@ -2,5 +2,10 @@
 #![tactic(auto)]
 
 mod forms;
+mod items;
+mod printing;
+mod rendering;
+mod values;
 
 pub use forms::{Cert, CertLine, Claim, Run, Version};
+pub use printing::{cert_len, print_cert};
