@@ -10,3 +10,7 @@ pub mod Parts
 pub mod RowRead
 pub mod StepRead
 pub mod WordRead
+pub mod RowLemmas
+pub mod Runs
+pub mod WholeLemmas
+pub mod Writing
