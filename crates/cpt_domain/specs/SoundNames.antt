@@ -23,7 +23,7 @@ pub record HasDifferentNames (d : Domain) : Type 0 where
 abbrev pub AreWords : List (List ℕ) → Type 0
 AreWords names = All (λ name. is_word name ≡ true) names
 
--- the names of each kind are words, and no predicate has the name of the word that makes a condition absent
+-- the names of each kind are words, and no predicate is called not
 pub record HasWordNames (d : Domain) : Type 0 where
   pub types : AreWords (map (λ (t : TypeDecl). t.name) d.types)
   pub constants : AreWords (map (λ (o : ObjectDecl). o.name) d.constants)

@@ -1,4 +1,5 @@
 mod CursorLemmas
 mod KindLemmas
+mod NameLemmas
 mod NumberLemmas
 pub mod WordLemmas

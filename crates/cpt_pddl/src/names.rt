@@ -1,17 +1,30 @@
 //! Lists of names.
 
-ghost use Rattle.std.specs.Prelude.{◌≡◌, ◌<◌, ◌^◌, ◌++◌, ◌∷◌, [], OnOk, OnErr, length};
-ghost use Rattle.cpt_pddl.specs.Names.{place_from, place_in};
+ghost use Rattle.std.specs.Prelude.{◌≡◌, ◌<◌, ◌^◌, ◌++◌, ◌∷◌, [], IfOk, IsSome, None, OnOk, OnErr, length};
+ghost use Rattle.cpt_pddl.specs.Names.{AreFirsts, place_in};
 
 use cpt_task::{List, Memory, Name};
+use indexmap::IndexMap;
 use std::alloc::Global;
 use std::marker::Model;
 
 /// Names in the order in which they were declared, fewer than 2^32.
-#[derive(Debug, Drop)]
+#[derive(Debug)]
 pub struct Names {
     items: Vec<Name>,
+    /// The first place of each name.
+    index: IndexMap<Vec<u8>, u32>,
     ghost few: { length items.items < 2 ^ 32 },
+    ghost firsts: { AreFirsts items.items index.entries },
+}
+
+impl Drop for Names {
+    fn drop(self) {
+        let Names {
+            items: _items,
+            index: _index,
+        } = self;
+    }
 }
 
 impl Model for Names {
@@ -25,16 +38,54 @@ impl Model for Names {
     ghost view = { λ a. a.items.items };
 }
 
-fn place_of(names: &[Name], word: &[u8]) -> Option<u32>
-    requires { length names.now < 2 ^ 32 }
-    ensures { result ≡ place_from names.now 0 word.now }
+fn copied(alloc: Global, word: &[u8]) -> Result<Vec<u8>, Memory>
+    ensures { IfOk result (λ copy. copy.items ≡ word.now) }
 {
-    for (k, name) in names.iter().enumerate() {
-        if name.as_slice() == word {
-            return Some(k as u32);
+    let mut bytes = Vec::new(alloc);
+    bytes.extend_from_slice(word)?;
+    Ok(bytes)
+}
+
+/// Adds a name that is not there yet, with its place. After `Memory` the names are unchanged.
+fn add_first(
+    items: &mut Vec<Name>,
+    index: &mut IndexMap<Vec<u8>, u32>,
+    name: Name,
+    key: Vec<u8>,
+) -> Result<(), Memory>
+    requires few { length items.old.items < 4294967295 }
+    requires key { key.items ≡ name }
+    requires new { place_in items.old.items name ≡ None }
+    requires firsts { AreFirsts items.old.items index.old.entries }
+    ensures ok { OnOk result (items.new.items ≡ items.old.items ++ name ∷ []) }
+    ensures err { OnErr result (items.new.items ≡ items.old.items) }
+    ensures firsts { AreFirsts items.new.items index.new.entries }
+{
+    let place = items.len();
+    items.push(name)?;
+    match index.insert(key, place as u32) {
+        Ok(_) => Ok(()),
+        Err(_) => {
+            items.truncate(place);
+            Err(Memory)
         }
     }
-    None
+}
+
+/// Adds a name that is there already. After `Memory` the names are unchanged.
+fn add_again(
+    items: &mut Vec<Name>,
+    index: &IndexMap<Vec<u8>, u32>,
+    name: Name,
+) -> Result<(), Memory>
+    requires there { IsSome (place_in items.old.items name) }
+    requires firsts { AreFirsts items.old.items index.now.entries }
+    ensures ok { OnOk result (items.new.items ≡ items.old.items ++ name ∷ []) }
+    ensures err { OnErr result (items.new.items ≡ items.old.items) }
+    ensures firsts { AreFirsts items.new.items index.now.entries }
+{
+    items.push(name)?;
+    Ok(())
 }
 
 impl Names {
@@ -44,6 +95,7 @@ impl Names {
     {
         Names {
             items: Vec::new(alloc),
+            index: IndexMap::new(alloc),
         }
     }
 
@@ -56,11 +108,10 @@ impl Names {
     }
 
     /// The number of the word among the names, from 0.
-    #[tactic(auto, unfolding(crate::specs::Names::place_in))]
     pub fn find(&self, word: &[u8]) -> Option<u32>
         ensures { result ≡ place_in self.now word.now }
     {
-        place_of(self.items.as_slice(), word)
+        self.index.get(word).copied()
     }
 
     /// How many names there are.
@@ -78,17 +129,23 @@ impl Names {
         if self.items.len() >= 4_294_967_295 {
             return Err(Memory);
         }
-        let mut bytes = Vec::new(*self.items.allocator());
-        bytes.extend_from_slice(word)?;
-        self.items.push(List::from_vec(bytes))?;
-        Ok(())
+        let alloc = *self.items.allocator();
+        let name = List::from_vec(copied(alloc, word)?);
+        if self.find(word).is_some() {
+            return add_again(&mut self.items, &self.index, name);
+        }
+        let key = copied(alloc, word)?;
+        add_first(&mut self.items, &mut self.index, name, key)
     }
 
     /// The names, given back.
     pub fn into_vec(self) -> Vec<Name>
         ensures { result.items ≡ self }
     {
-        let Names { items } = self;
+        let Names {
+            items,
+            index: _index,
+        } = self;
         items
     }
 }

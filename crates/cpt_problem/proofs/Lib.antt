@@ -2,6 +2,7 @@ mod ErrorLemmas
 mod FitLemmas
 mod GoalLemmas
 mod InitLemmas
+mod KeyLemmas
 mod ObjectLemmas
 mod PairLemmas
 mod SizeLemmas

@@ -1,5 +1,5 @@
 use Rattle.std.proofs.Common.{◌≡◌, ℕ, suc, ◌+◌, ◌-◌, ◌<◌, ◌≤◌, List, length, refl, arith}
-use Rattle.std.specs.Prelude.{if◌then◌else◌, Option, None, Some, Ok, Err, IfOk, IfSome, codes}
+use Rattle.std.specs.Prelude.{Option, None, Some, Ok, Err, IfOk, IfSome, codes}
 use Rattle.std.specs.Str.{bytes_eq}
 use Rattle.cpt_sexp.specs.Bytes.{plain}
 use Rattle.cpt_sexp.specs.Grammar.{ForestShape, IsForest, Spells}

@@ -1,6 +1,7 @@
 pub mod Errors
 pub mod Goals
 pub mod Inits
+pub mod Keys
 pub mod Objects
 pub mod Reading
 pub mod Sections

@@ -5,7 +5,7 @@ use Rattle.cpt_problem.specs.Inits.{Beginning}
 
 -- what holds at first, by its lists
 abbrev pub begun_of : Inits → Beginning
-begun_of i = record { facts = i.facts.items; values = i.values.items }
+begun_of i = record { facts = i.facts.items; values = i.values.items.items }
 
 -- a goal by its lists
 abbrev pub aims_of : Goals → Aims

@@ -4,11 +4,12 @@ ghost use Rattle.std.specs.Prelude.{◌≡◌};
 ghost use Rattle.cpt_pddl.specs.Faults.{Gives};
 ghost use Rattle.cpt_pddl.specs.Items.{left};
 ghost use Rattle.cpt_pddl.specs.Words.{head_of};
-ghost use Rattle.cpt_problem.specs.Inits.{equation, has_value, init_by, init_in, inits_in, is_timed, is_value, nothing_begun, same_args, unless_known, value_by, value_in, value_at, with_fact, with_value};
+ghost use Rattle.cpt_problem.specs.Inits.{equation, init_by, init_in, inits_in, is_timed, is_value, nothing_begun, unless_known, value_by, value_in, value_at, with_fact, with_value};
 ghost use Rattle.cpt_problem.specs.Shapes.{begun_of};
 
 use crate::objects::{Filled, atom_in, function_term};
-use crate::tables::is_duration_function;
+use crate::timing::Timing;
+use crate::values::Values;
 use cpt_declared::Declared;
 use cpt_facts::{Fact, Valued};
 use cpt_pddl::{Cursor, Fault, Feature, Head, Next, head_of, nothing, number_in};
@@ -19,36 +20,13 @@ use std::alloc::Global;
 #[derive(Debug, Drop)]
 pub struct Inits {
     pub facts: Vec<Fact>,
-    pub values: Vec<Valued>,
+    pub values: Values,
 }
 
-fn same_args(a: &[u32], b: &[u32]) -> bool
-    ensures { result ≡ same_args a.now b.now }
+fn unless_known(alloc: Global, values: &Values, item: u32, term: &Filled) -> Result<(), Fault>
+    ensures { Gives (λ _. tt) result (unless_known values.now.items.items item term.now) }
 {
-    match a {
-        [] => b.is_empty(),
-        [x, xs @ ..] => match b {
-            [] => false,
-            [y, ys @ ..] => *x == *y && same_args(xs, ys),
-        },
-    }
-}
-
-fn has_value(values: &[Valued], func: u32, args: &[u32]) -> bool
-    ensures { result ≡ has_value values.now func args.now }
-{
-    for v in values {
-        if v.func == func && same_args(v.args.as_slice(), args) {
-            return true;
-        }
-    }
-    false
-}
-
-fn unless_known(values: &[Valued], item: u32, term: &Filled) -> Result<(), Fault>
-    ensures { Gives (λ _. tt) result (unless_known values.now item term.now) }
-{
-    if has_value(values, term.number, term.args.as_slice()) {
+    if values.has(alloc, term.number, term.args.as_slice())? {
         Err(Fault::Twice(item))
     } else {
         Ok(())
@@ -97,19 +75,19 @@ fn value_in(lasting: bool, place: Cursor<'_>) -> Result<u32, Fault>
 #[tactic(auto, unfolding(crate::specs::Inits::value_at))]
 fn value_at(
     alloc: Global,
-    schemas: &[Schema],
+    timing: &Timing<'_>,
     declared: &Declared,
-    values: &[Valued],
+    values: &Values,
     item: u32,
     at: u32,
     inside: Cursor<'_>,
     rest: Cursor<'_>,
 ) -> Result<Valued, Fault>
-    ensures { Gives (λ value. value) result (value_at schemas.now declared.now values.now item at (left inside.entry) (left rest.entry)) }
+    ensures { Gives (λ value. value) result (value_at timing.now.schemas.now declared.now values.now.items.items item at (left inside.entry) (left rest.entry)) }
 {
     let term = function_term(alloc, declared, at, inside)?;
-    unless_known(values, item, &term)?;
-    let value = value_in(is_duration_function(schemas, term.number), rest)?;
+    unless_known(alloc, values, item, &term)?;
+    let value = value_in(timing.is_duration(term.number), rest)?;
     let Filled { number, args } = term;
     Ok(Valued {
         func: number,
@@ -120,19 +98,19 @@ fn value_at(
 
 fn equation(
     alloc: Global,
-    schemas: &[Schema],
+    timing: &Timing<'_>,
     declared: &Declared,
-    values: &[Valued],
+    values: &Values,
     item: u32,
     place: Cursor<'_>,
 ) -> Result<Valued, Fault>
-    ensures { Gives (λ value. value) result (equation schemas.now declared.now values.now item (left place.entry)) }
+    ensures { Gives (λ value. value) result (equation timing.now.schemas.now declared.now values.now.items.items item (left place.entry)) }
 {
     match place.next() {
         Next::End(_) => Err(Fault::Feature(Feature::Numeric, item)),
         Next::Word(_, _, _) => Err(Fault::Feature(Feature::Numeric, item)),
         Next::Group(at, inside, rest) => {
-            value_at(alloc, schemas, declared, values, item, at, inside, rest)
+            value_at(alloc, timing, declared, values, item, at, inside, rest)
         }
     }
 }
@@ -154,7 +132,7 @@ impl Inits {
     {
         Inits {
             facts: Vec::new(alloc),
-            values: Vec::new(alloc),
+            values: Values::new(alloc),
         }
     }
 
@@ -179,34 +157,33 @@ impl Inits {
     fn read_value(
         &mut self,
         alloc: Global,
-        schemas: &[Schema],
+        timing: &Timing<'_>,
         declared: &Declared,
         item: u32,
         rest: Cursor<'_>,
     ) -> Result<(), Fault>
-        ensures { Gives (λ _. begun_of self.new) result (with_value schemas.now declared.now (begun_of self.old) item (left rest.entry)) }
+        ensures { Gives (λ _. begun_of self.new) result (with_value timing.now.schemas.now declared.now (begun_of self.old) item (left rest.entry)) }
     {
-        let value = equation(alloc, schemas, declared, self.values.as_slice(), item, rest)?;
-        self.values.push(value)?;
-        Ok(())
+        let value = equation(alloc, timing, declared, &self.values, item, rest)?;
+        self.values.push(alloc, value)
     }
 
     fn read_by(
         &mut self,
         alloc: Global,
-        schemas: &[Schema],
+        timing: &Timing<'_>,
         declared: &Declared,
         item: u32,
         at: u32,
         bytes: &[u8],
         rest: Cursor<'_>,
     ) -> Result<(), Fault>
-        ensures { Gives (λ _. begun_of self.new) result (init_by schemas.now declared.now (begun_of self.old) item at bytes.now (left rest.entry) (head_of bytes.now)) }
+        ensures { Gives (λ _. begun_of self.new) result (init_by timing.now.schemas.now declared.now (begun_of self.old) item at bytes.now (left rest.entry) (head_of bytes.now)) }
     {
         match head_of(bytes) {
             Head::And => self.read_fact(alloc, declared, item, at, bytes, rest),
             Head::Not => Err(Fault::Feature(Feature::Negative, item)),
-            Head::Equal => self.read_value(alloc, schemas, declared, item, rest),
+            Head::Equal => self.read_value(alloc, timing, declared, item, rest),
             Head::At => {
                 if is_timed(rest) {
                     Err(Fault::Feature(Feature::Timed, item))
@@ -224,17 +201,17 @@ impl Inits {
     fn read(
         &mut self,
         alloc: Global,
-        schemas: &[Schema],
+        timing: &Timing<'_>,
         declared: &Declared,
         item: u32,
         inside: Cursor<'_>,
     ) -> Result<(), Fault>
-        ensures { Gives (λ _. begun_of self.new) result (init_in schemas.now declared.now (begun_of self.old) item (left inside.entry)) }
+        ensures { Gives (λ _. begun_of self.new) result (init_in timing.now.schemas.now declared.now (begun_of self.old) item (left inside.entry)) }
     {
         match inside.next() {
             Next::End(close) => Err(Fault::Shape(close)),
             Next::Word(at, bytes, rest) => {
-                self.read_by(alloc, schemas, declared, item, at, bytes, rest)
+                self.read_by(alloc, timing, declared, item, at, bytes, rest)
             }
             Next::Group(at, _, _) => Err(Fault::Shape(at)),
         }
@@ -250,6 +227,7 @@ pub fn inits_in(
 ) -> Result<Inits, Fault>
     ensures { Gives begun_of result (inits_in schemas.now declared.now nothing_begun (left place.entry)) }
 {
+    let timing = Timing::of(alloc, schemas)?;
     let mut inits = Inits::new(alloc);
     let mut here = place;
     'items: loop {
@@ -257,7 +235,7 @@ pub fn inits_in(
             Next::End(_) => return Ok(inits),
             Next::Word(at, _, _) => return Err(Fault::Shape(at)),
             Next::Group(item, inside, rest) => {
-                inits.read(alloc, schemas, declared, item, inside)?;
+                inits.read(alloc, &timing, declared, item, inside)?;
                 here = rest;
             }
         }

@@ -10,6 +10,8 @@ mod sections;
 mod tables;
 #[cfg(test)]
 mod tests;
+mod timing;
+mod values;
 
 pub use cpt_facts::{Fact, Problem, Valued};
 pub use error::ProblemError;

@@ -43,7 +43,7 @@ fn assembled(
         objects,
         init: List::from_vec(facts),
         goal: List::from_vec(present),
-        values: List::from_vec(values),
+        values: List::from_vec(values.into_vec()),
         absent: List::from_vec(absent),
     })
 }

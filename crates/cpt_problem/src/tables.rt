@@ -3,12 +3,11 @@
 ghost use Rattle.std.specs.Prelude.{◌≡◌, Ok};
 ghost use Rattle.std.specs.List.{zip};
 ghost use Rattle.cpt_pddl.specs.Faults.{Gives};
-ghost use Rattle.cpt_problem.specs.Tables.{declared_of, function_kinds, function_names, is_duration_function, names_function, object_kinds, object_names, objects_after, predicate_kinds, predicate_names, type_names, type_parents};
+ghost use Rattle.cpt_problem.specs.Tables.{declared_of, function_kinds, function_names, object_kinds, object_names, objects_after, predicate_kinds, predicate_names, type_names, type_parents};
 
 use cpt_declared::{Declared, Kinds, Signatures};
 use cpt_domain::{Domain, Function, ObjectDecl, Predicate, TypeDecl};
 use cpt_pddl::{Fault, Names, Typed};
-use cpt_schema::{Lasting, Schema};
 use cpt_task::List;
 use std::alloc::Global;
 
@@ -157,25 +156,4 @@ pub fn objects_after(alloc: Global, count: usize, objects: Typed) -> Result<List
         .skip(count)
         .collect(alloc)?;
     Ok(List::from_vec(decls))
-}
-
-fn names_function(lasting: &Lasting, func: u32) -> bool
-    ensures { result ≡ names_function lasting.now func }
-{
-    match lasting {
-        Lasting::Fixed(_) => false,
-        Lasting::Value { func: f, .. } => *f == func,
-    }
-}
-
-/// Whether the duration of some action is the value of the function.
-pub fn is_duration_function(schemas: &[Schema], func: u32) -> bool
-    ensures { result ≡ is_duration_function schemas.now func }
-{
-    for s in schemas {
-        if names_function(&s.dur, func) {
-            return true;
-        }
-    }
-    false
 }
