@@ -85,7 +85,8 @@ fn push_actions(text: &mut Vec<u8>, actions: &[Action]) -> Result<(), AllocError
     Ok(())
 }
 
-fn text_of(alloc: Global, task: &Task) -> Result<Vec<u8>, AllocError>
+/// The one spelling of the task.
+pub fn task_text(alloc: Global, task: &Task) -> Result<Vec<u8>, AllocError>
     ensures { IfOk result (λ text. text.items ≡ spelling task.now) }
 {
     let mut text = Vec::new(alloc);
@@ -110,7 +111,7 @@ pub fn print_task<K: Sink>(alloc: Global, task: &Task, out: &mut K) -> Result<()
     ensures cause { IsErrOf result Failed → K.faults out.old < K.faults out.new }
     ensures kept { (IsErrOf result Failed → ⊥) → K.faults out.new ≡ K.faults out.old }
 {
-    let Ok(text) = text_of(alloc, task) else {
+    let Ok(text) = task_text(alloc, task) else {
         return Err(PrintError::Memory);
     };
     match out.put(&text) {

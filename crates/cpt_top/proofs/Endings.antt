@@ -1,6 +1,6 @@
 use Rattle.std.proofs.Common.{◌≡◌, ℕ, List, sym, subst}
-use Rattle.cpt_top.specs.declared.ending.Ending.{Ending}
-use Rattle.cpt_top.specs.Ending.{Answer, ending_answer}
+use Rattle.cpt_files.specs.declared.ending.Ending.{Ending}
+use Rattle.cpt_files.specs.Ending.{Answer, ending_answer}
 use Rattle.cpt_top.specs.Printing.{Output, Writes}
 
 -- what is written where the status and the text are those of an answer

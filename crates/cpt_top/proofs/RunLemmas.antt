@@ -1,16 +1,21 @@
-use Rattle.std.proofs.Common.{◌≡◌, ◌≢◌, ◌↔◌, ℕ, ◌<◌, ◌≤◌, ◌⊎◌, inl, inr, Bool, IsTrue, List, Option, None, Some, Result, Ok, Err, IfOk, IfSome, refl, sym, ap, ◌∙◌, subst, arith}
+use Rattle.std.proofs.Common.{◌≡◌, ◌≢◌, ◌↔◌, ℕ, ◌<◌, ◌≤◌, ◌⊎◌, inl, inr, Bool, IsTrue, List, Option, Result, Ok, Err, IfOk, IfSome, refl, sym, ap, ◌∙◌, subst, arith}
 use Rattle.std.specs.Io.KnownBytes.{append_known}
 use Rattle.cpt_io.specs.Meaning.{Files, AppendsFront}
-use Rattle.cpt_top.specs.declared.ending.Ending.{Ending}
-use Rattle.cpt_top.specs.declared.ending.Ending.TheVariants.{Usage, Passed, TaskLine, PlanLine, PlanUnknown, MustLast, IsUnreachable, Read, Memory}
+use Rattle.cpt_files.specs.declared.ending.Ending.{Ending}
+use Rattle.cpt_files.specs.declared.ending.Ending.TheVariants.{Usage, Passed, DomainByte, ProblemByte, TaskLine, PlanLine, PlanUnknown, MustLast, IsUnreachable, Read, Memory}
 use Rattle.cpt_top.specs.declared.verdicts.Reply.{Reply}
-use Rattle.cpt_top.specs.Ending.{Answer, answer_of, ending_answer, ending_line}
-use Rattle.cpt_top.specs.Files.{Gives}
-use Rattle.cpt_top.specs.Commands.{AsksValidation, ComesTo, IsUsage, Answers, MayWrite, HoldValidPlan}
-use Rattle.cpt_top.specs.Lines.{read_line, memory_line, valid_line}
+use Rattle.cpt_files.specs.Ending.{Answer, answer_of, ending_answer}
+use Rattle.cpt_files.specs.Files.{Gives}
+use Rattle.cpt_task_text.specs.Spelling.{spelling}
+use Rattle.cpt_reach.specs.declared.pruning.Pruned.{Pruned}
+use Rattle.cpt_reach.specs.Plans.{older_plan}
+use Rattle.cpt_top.specs.Commands.{Answers, Asked, Asks, AsksJudging, AsksListing, AsksValidation, ComesTo, HoldJudgedPlan, HoldKept, HoldValidPlan, IsUsage, IsValidWithAbsence, MayWrite, Reaches, judging, listing, validation}
+use Rattle.cpt_files.proofs.Giving.{if_some_weaker}
+use Rattle.cpt_files.specs.Lines.{read_line, memory_line, valid_line}
 use Rattle.cpt_top.specs.Printing.{Output, Writes, WritesWhole, WritesFront, WritesAnswer, memory_answer, ended_answer, told}
-use Rattle.cpt_top.specs.Verdicts.{JudgesFiles, reply_answer}
-use Rattle.cpt_top.proofs.Once.{comes_once, same_task, same_plan, zero_is_valid, valid_is_zero}
+use Rattle.cpt_top.specs.Verdicts.{reply_answer}
+use Rattle.cpt_top.proofs.Once.{asked_reaches, comes_once}
+use Rattle.cpt_top.proofs.Zero.{judged_is_zero, listed_is_zero, valid_is_zero, with_absence, zero_is_judged, zero_is_listed, zero_is_valid}
 
 -- what is known after a run
 pub record Ran (o : Option Files) (steady : Bool) (words : List (List ℕ)) (r : Result Reply Ending) (before now : ℕ) (old new : Output) (status : ℕ) : Type 0 where
@@ -40,6 +45,8 @@ is_told : (r : Result Reply Ending) → IfOk r (λ reply. reply.status ≤ 1) �
 is_told (Ok reply) small a b = record { not_read = a; not_memory = b; low = omega (arith, small) }
 is_told (Err (MustLast line dur)) small a b = record { not_read = a; not_memory = b; low = omega arith }
 is_told (Err (IsUnreachable line)) small a b = record { not_read = a; not_memory = b; low = omega arith }
+is_told (Err (DomainByte at fault)) small a b = record { not_read = a; not_memory = b; low = omega arith }
+is_told (Err (ProblemByte at fault)) small a b = record { not_read = a; not_memory = b; low = omega arith }
 is_told (Err (TaskLine line)) small a b = record { not_read = a; not_memory = b; low = omega arith }
 is_told (Err (PlanLine line)) small a b = record { not_read = a; not_memory = b; low = omega arith }
 is_told (Err (PlanUnknown line)) small a b = record { not_read = a; not_memory = b; low = omega arith }
@@ -65,6 +72,8 @@ known_of : (r : Result Reply Ending) → Known r
 known_of (Ok reply) = other (λ e. cc) (λ e. cc) (λ e. cc)
 known_of (Err (MustLast line dur)) = other (λ e. cc) (λ e. cc) (λ e. cc)
 known_of (Err (IsUnreachable line)) = other (λ e. cc) (λ e. cc) (λ e. cc)
+known_of (Err (DomainByte at fault)) = other (λ e. cc) (λ e. cc) (λ e. cc)
+known_of (Err (ProblemByte at fault)) = other (λ e. cc) (λ e. cc) (λ e. cc)
 known_of (Err (TaskLine line)) = other (λ e. cc) (λ e. cc) (λ e. cc)
 known_of (Err (PlanLine line)) = other (λ e. cc) (λ e. cc) (λ e. cc)
 known_of (Err (PlanUnknown line)) = other (λ e. cc) (λ e. cc) (λ e. cc)
@@ -193,14 +202,12 @@ write_comes x up = elim (out_of x) [
 pub write_exactly : (x : Run) → (x.status ≡ 8) ↔ (x.old.faults < x.new.faults)
 write_exactly x = (write_only x, write_comes x)
 
-if_some_weaker : {X : Type 0} (o : Option X) (P Q : X → Type 0) → ((x : X) → P x → Q x) → IfSome o P → IfSome o Q
-if_some_weaker None P Q f h = h
-if_some_weaker (Some x) P Q f h = f x h
-
 status_five : (r : Result Reply Ending) → IfOk r (λ reply. reply.status ≤ 1) → (ended_answer r).status ≡ 5 → r ≡ Err Usage
 status_five (Ok reply) small five = absurd (omega (arith, small, five))
 status_five (Err (MustLast line dur)) small five = absurd (omega (arith, five))
 status_five (Err (IsUnreachable line)) small five = absurd (omega (arith, five))
+status_five (Err (DomainByte at fault)) small five = absurd (omega (arith, five))
+status_five (Err (ProblemByte at fault)) small five = absurd (omega (arith, five))
 status_five (Err (TaskLine line)) small five = absurd (omega (arith, five))
 status_five (Err (PlanLine line)) small five = absurd (omega (arith, five))
 status_five (Err (PlanUnknown line)) small five = absurd (omega (arith, five))
@@ -226,6 +233,8 @@ gives_told : (steady : Bool) (r : Result Reply Ending) (P : Result Answer Ending
 gives_told steady (Ok reply) P a b g = g
 gives_told steady (Err (MustLast line dur)) P a b g = g
 gives_told steady (Err (IsUnreachable line)) P a b g = g
+gives_told steady (Err (DomainByte at fault)) P a b g = g
+gives_told steady (Err (ProblemByte at fault)) P a b g = g
 gives_told steady (Err (TaskLine line)) P a b g = g
 gives_told steady (Err (PlanLine line)) P a b g = g
 gives_told steady (Err (PlanUnknown line)) P a b g = g
@@ -311,26 +320,37 @@ front x = if_some_weaker x.files (λ files. Gives x.steady reply_answer x.r (Com
       ]
     ]
 
+-- the answer was 0: what the command came to, and its text
+zero_of : (x : Run) (files : Files) (asked : Asked) → Asks x.words asked → Only x files → x.status ≡ 0
+    → (r : Result Answer Ending) × Reaches files asked r × ((answer_of r).status ≡ 0) × (x.new.written ≡ append_known x.old.written (answer_of r).text)
+zero_of x files asked asks told_only zero =
+    let told_text = told_only (omega (arith, zero)) in
+    let answers : Answers files x.words (record { status = x.status; text = told_text.0 }) = told_text.1 in (
+      answers.0,
+      asked_reaches files x.words asked answers.0 asks answers.1,
+      sym (ap (λ (a : Answer). a.status) answers.2) ∙ zero,
+      told_text.2 ∙ ap (append_known x.old.written) (ap (λ (a : Answer). a.text) answers.2),
+    )
+
+-- a command that reaches status 0 is answered so
+zero_comes : (x : Run) (files : Files) (asked : Asked) (text : List ℕ) → Asks x.words asked → Reaches files asked (Ok (record { status = 0; text = text })) → Complete x files
+    → x.new.faults ≡ x.old.faults → (x.now ≡ x.before) ⊎ IsTrue x.steady → (x.status ≡ 9) ⊎ ((x.status ≡ 0) × (x.new.written ≡ append_known x.old.written text))
+zero_comes x files asked text asks reaches whole same quiet =
+    whole (record { status = 0; text = text }) (Ok (record { status = 0; text = text }), inl (asked, asks, reaches), refl) (λ e. cc) same quiet
+
 -- a plan that is judged valid is valid, and its line was written
 abbrev pub Validated : Run → Files → Type 0
 Validated x files = (task_name plan_name : List ℕ) → AsksValidation x.words task_name plan_name → x.status ≡ 0
     → (m : ℕ) × HoldValidPlan files task_name plan_name m × (x.new.written ≡ append_known x.old.written (valid_line m))
 
-asked_files : (words : List (List ℕ)) (files : Files) (t p : List ℕ) (r : Result Answer Ending) → AsksValidation words t p → ComesTo files words r → JudgesFiles files t p r
-asked_files words files t p r asked comes = elim comes [
-  | inl h ↦ subst (λ q. JudgesFiles files t q r) (same_plan words t p h.0 h.1 asked h.2) (subst (λ u. JudgesFiles files u h.1 r) (same_task words t p h.0 h.1 asked h.2) h.3)
-  | inr h ↦ absurd (h.0 t p asked)
-]
-
 pub validated : (x : Run) → IfSome x.files (Validated x)
 validated x = if_some_weaker x.files (Only x) (Validated x) (validated_in x) (only x)
   where
     validated_in : (x : Run) (files : Files) → Only x files → Validated x files
-    validated_in x files told_only t p asked zero =
-        let told_text = told_only (omega (arith, zero)) in
-        let answers : Answers files x.words (record { status = x.status; text = told_text.0 }) = told_text.1 in
-        let valid = zero_is_valid files t p answers.0 (asked_files x.words files t p answers.0 asked answers.1) (sym (ap (λ (a : Answer). a.status) answers.2) ∙ zero) in
-        (valid.0, valid.1, told_text.2 ∙ ap (append_known x.old.written) (ap (λ (a : Answer). a.text) answers.2 ∙ valid.2))
+    validated_in x files told_only t p asks zero =
+        let at = zero_of x files (validation t p) asks told_only zero in
+        let valid = zero_is_valid files t p at.0 at.1 at.2 in
+        (valid.0, valid.1, at.3 ∙ ap (append_known x.old.written) valid.2)
 
 -- a valid plan is judged valid, unless a file cannot be read, a write fails or memory is refused
 abbrev pub Validates : Run → Files → Type 0
@@ -341,5 +361,55 @@ pub validates : (x : Run) → IfSome x.files (Validates x)
 validates x = if_some_weaker x.files (Complete x) (Validates x) (validates_in x) (complete x)
   where
     validates_in : (x : Run) (files : Files) → Complete x files → Validates x files
-    validates_in x files whole t p m asked holds same quiet =
-        whole (record { status = 0; text = valid_line m }) (Ok (record { status = 0; text = valid_line m }), inl (t, p, asked, valid_is_zero files t p m holds), refl) (λ e. cc) same quiet
+    validates_in x files whole t p m asks holds = zero_comes x files (validation t p) (valid_line m) asks (valid_is_zero files t p m holds) whole
+
+-- a plan that is judged valid over a domain and a problem is valid for their ground task and for their reading with absence
+abbrev pub Judged : Run → Files → Type 0
+Judged x files = (domain_name problem_name plan_name : List ℕ) → AsksJudging x.words domain_name problem_name plan_name → x.status ≡ 0
+    → (m : ℕ) × (held : HoldJudgedPlan files domain_name problem_name plan_name m) × IsValidWithAbsence held.domain held.problem (older_plan held.kept.actions held.plan.occs) m
+    × (x.new.written ≡ append_known x.old.written (valid_line m))
+
+pub judged : (x : Run) → IfSome x.files (Judged x)
+judged x = if_some_weaker x.files (Only x) (Judged x) (judged_in x) (only x)
+  where
+    judged_in : (x : Run) (files : Files) → Only x files → Judged x files
+    judged_in x files told_only d p n asks zero =
+        let at = zero_of x files (judging d p n) asks told_only zero in
+        let valid = zero_is_judged files d p n at.0 at.1 at.2 in
+        (valid.0, valid.1, with_absence files d p n valid.0 valid.1, at.3 ∙ ap (append_known x.old.written) valid.2)
+
+-- a plan that is valid for the ground task is judged so, unless a file cannot be read, a write fails or memory is refused
+abbrev pub JudgesIt : Run → Files → Type 0
+JudgesIt x files = (domain_name problem_name plan_name : List ℕ) (m : ℕ) → AsksJudging x.words domain_name problem_name plan_name → HoldJudgedPlan files domain_name problem_name plan_name m
+    → x.new.faults ≡ x.old.faults → (x.now ≡ x.before) ⊎ IsTrue x.steady → (x.status ≡ 9) ⊎ ((x.status ≡ 0) × (x.new.written ≡ append_known x.old.written (valid_line m)))
+
+pub judges : (x : Run) → IfSome x.files (JudgesIt x)
+judges x = if_some_weaker x.files (Complete x) (JudgesIt x) (judges_in x) (complete x)
+  where
+    judges_in : (x : Run) (files : Files) → Complete x files → JudgesIt x files
+    judges_in x files whole d p n m asks holds = zero_comes x files (judging d p n) (valid_line m) asks (judged_is_zero files d p n m holds) whole
+
+-- what is listed is the kept task
+abbrev pub Listed : Run → Files → Type 0
+Listed x files = (domain_name problem_name : List ℕ) → AsksListing x.words domain_name problem_name → x.status ≡ 0
+    → (kept : Pruned) × HoldKept files domain_name problem_name kept × (x.new.written ≡ append_known x.old.written (spelling kept.task))
+
+pub listed : (x : Run) → IfSome x.files (Listed x)
+listed x = if_some_weaker x.files (Only x) (Listed x) (listed_in x) (only x)
+  where
+    listed_in : (x : Run) (files : Files) → Only x files → Listed x files
+    listed_in x files told_only d p asks zero =
+        let at = zero_of x files (listing d p) asks told_only zero in
+        let kept = zero_is_listed files d p at.0 at.1 at.2 in
+        (kept.0, kept.1, at.3 ∙ ap (append_known x.old.written) kept.2)
+
+-- the kept task is listed, unless a file cannot be read, a write fails or memory is refused
+abbrev pub Lists : Run → Files → Type 0
+Lists x files = (domain_name problem_name : List ℕ) (kept : Pruned) → AsksListing x.words domain_name problem_name → HoldKept files domain_name problem_name kept
+    → x.new.faults ≡ x.old.faults → (x.now ≡ x.before) ⊎ IsTrue x.steady → (x.status ≡ 9) ⊎ ((x.status ≡ 0) × (x.new.written ≡ append_known x.old.written (spelling kept.task)))
+
+pub lists : (x : Run) → IfSome x.files (Lists x)
+lists x = if_some_weaker x.files (Complete x) (Lists x) (lists_in x) (complete x)
+  where
+    lists_in : (x : Run) (files : Files) → Complete x files → Lists x files
+    lists_in x files whole d p kept asks holds = zero_comes x files (listing d p) (spelling kept.task) asks (listed_is_zero files d p kept holds) whole

@@ -1,11 +1,11 @@
 use Rattle.std.specs.Prelude.{◌≡◌, ℕ, ◌<◌, ◌⊎◌, List, Option, Result, Ok, Err}
 use Rattle.std.specs.Io.KnownBytes.{append_known}
 use Rattle.cpt_io.specs.Meaning.{AppendsFront}
-use Rattle.cpt_top.specs.declared.ending.Ending.{Ending}
+use Rattle.cpt_files.specs.declared.ending.Ending.{Ending}
 use Rattle.cpt_top.specs.declared.verdicts.Reply.{Reply}
-use Rattle.cpt_top.specs.Ending.{Answer, answer_of}
+use Rattle.cpt_files.specs.Ending.{Answer, answer_of}
 use Rattle.cpt_top.specs.Verdicts.{reply_answer}
-use Rattle.cpt_top.specs.Lines.{memory_line}
+use Rattle.cpt_files.specs.Lines.{memory_line}
 
 -- an output before a call and after it: how many writes have failed, and what was written, where it is told
 pub record Output : Type 0 where

@@ -1,15 +1,19 @@
-use Rattle.std.specs.Prelude.{◌≡◌, ℕ, List, [], Result, Ok, Err, slice_index, slice_index_or}
+use Rattle.std.specs.Prelude.{◌≡◌, ℕ, List, [], Result, Ok, slice_index, slice_index_or}
 use Rattle.cpt_io.specs.Meaning.{Files}
 use Rattle.cpt_task.specs.Shape.{TaskShape}
 use Rattle.cpt_task.specs.Judging.{Judges}
 use Rattle.cpt_task.specs.declared.plan.Verdict.{Verdict}
 use Rattle.cpt_task.specs.declared.plan.Verdict.TheVariants.{Valid, Overlap, Unmet, GoalMissing}
 use Rattle.cpt_plan_text.specs.declared.reading.PlanText.{PlanText}
+use Rattle.cpt_task_text.specs.Spelling.{spelling}
+use Rattle.cpt_files.specs.declared.accepted.Accepted.{Accepted}
 use Rattle.cpt_top.specs.declared.verdicts.Reply.{Reply}
-use Rattle.cpt_top.specs.declared.ending.Ending.{Ending}
-use Rattle.cpt_top.specs.Ending.{Answer}
-use Rattle.cpt_top.specs.Files.{task_under, plan_under}
-use Rattle.cpt_top.specs.Lines.{valid_line, overlap_line, lacks_line, missing_line}
+use Rattle.cpt_files.specs.declared.ending.Ending.{Ending}
+use Rattle.cpt_files.specs.Ending.{Answer}
+use Rattle.cpt_files.specs.Accepted.{AcceptsTask}
+use Rattle.cpt_files.specs.Files.{Then, ThenBy, task_under, plan_by, plan_under}
+use Rattle.cpt_files.specs.Names.{kept_finds}
+use Rattle.cpt_files.specs.Lines.{valid_line, overlap_line, lacks_line, missing_line}
 
 -- the name of an atom
 abbrev pub atom_name : TaskShape → ℕ → List ℕ
@@ -41,11 +45,6 @@ verdict_answer task plan verdict = record { status = verdict_status verdict; tex
 abbrev pub reply_answer : Reply → Answer
 reply_answer reply = record { status = reply.status; text = reply.text.items }
 
--- a read value is as P says, or its ending is the result
-abbrev pub Then : {A B : Type 0} → Result A Ending → (A → Result B Ending → Type 0) → Result B Ending → Type 0
-Then (Ok x) P r = P x r
-Then (Err e) P r = r ≡ Err e
-
 -- the answer is that of the plan's verdict
 abbrev pub AnswersVerdict : TaskShape → PlanText → Result Answer Ending → Type 0
 AnswersVerdict task plan r = (verdict : Verdict) × Judges task plan.occs verdict × (r ≡ Ok (verdict_answer task plan verdict))
@@ -53,3 +52,18 @@ AnswersVerdict task plan r = (verdict : Verdict) × Judges task plan.occs verdic
 -- what judging the plan of one file over the task of another comes to: the task is read and understood before the plan is opened
 abbrev pub JudgesFiles : Files → List ℕ → List ℕ → Result Answer Ending → Type 0
 JudgesFiles files task_name plan_name = Then (task_under files task_name) (λ task. Then (plan_under files task plan_name) (AnswersVerdict task))
+
+-- the plan in a file, over what two files come to: its actions are named as those of the kept task or as other instances
+abbrev pub accepted_plan : Files → Accepted → List ℕ → Result PlanText Ending
+accepted_plan files a name = plan_by files (kept_finds a.domain a.problem a.kept) a.kept.task name
+
+-- What judging the plan of a file over the domain and the problem of two others comes to: the kept task is made before the plan is
+-- opened, and the plan is judged over it.
+abbrev pub JudgesPlan : Files → (domain_name problem_name plan_name : List ℕ) → Result Answer Ending → Type 0
+JudgesPlan files domain_name problem_name plan_name =
+    ThenBy (AcceptsTask files domain_name problem_name) (λ a. Then (accepted_plan files a plan_name) (AnswersVerdict a.kept.task))
+
+-- what listing the kept task of a domain and a problem comes to
+abbrev pub ListsTask : Files → (domain_name problem_name : List ℕ) → Result Answer Ending → Type 0
+ListsTask files domain_name problem_name =
+    ThenBy (AcceptsTask files domain_name problem_name) (λ a r. r ≡ Ok (record { status = 0; text = spelling a.kept.task }))

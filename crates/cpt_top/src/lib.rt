@@ -1,14 +1,14 @@
 //! The commands.
 #![tactic(auto)]
 
-mod ending;
-mod files;
 mod laws;
+mod listing;
 mod printing;
 mod running;
 mod validating;
 mod verdicts;
 mod words;
 
+pub use cpt_files::KeptNames;
 pub use laws::one_answer;
 pub use running::run;

@@ -1,12 +1,12 @@
 //! Writing answers.
 
 ghost use Rattle.std.specs.Prelude.{◌≡◌, ◌-◌, ◌^◌, ◌<◌};
-ghost use Rattle.cpt_top.specs.Ending.{ending_answer};
+ghost use Rattle.cpt_files.specs.Ending.{ending_answer};
 ghost use Rattle.cpt_top.specs.Printing.{memory_answer, output, Writes, WritesAnswer};
 ghost use Rattle.cpt_top.specs.Verdicts.{reply_answer};
 
-use crate::ending::{Ending, MEMORY_LINE, READ_LINE, USAGE_LINE, line_of, status_of};
 use crate::verdicts::Reply;
+use cpt_files::{Ending, MEMORY_LINE, READ_LINE, USAGE_LINE, line_of, status_of};
 use cpt_io::Sink;
 use std::alloc::Global;
 

@@ -3,20 +3,42 @@
 ghost use Rattle.std.specs.Prelude.{◌≡◌, ◌≢◌, ◌↔◌, ◌⊎◌, ◌-◌, ◌^◌, ◌<◌, ◌≤◌, List, ℕ, map, IfOk, IfSome, IsTrue, string_bytes};
 ghost use Rattle.std.specs.Io.KnownBytes.{append_known};
 ghost use Rattle.cpt_io.specs.Meaning.{AppendsFront};
-ghost use Rattle.cpt_top.specs.Commands.{Answers, AsksValidation, ComesTo, HoldValidPlan, IsUsage, MayWrite};
-ghost use Rattle.cpt_top.specs.Ending.{Answer};
-ghost use Rattle.cpt_top.specs.Files.{Gives};
-ghost use Rattle.cpt_top.specs.Lines.{memory_line, read_line, valid_line};
+ghost use Rattle.cpt_reach.specs.declared.pruning.Pruned.{Pruned};
+ghost use Rattle.cpt_reach.specs.Plans.{older_plan};
+ghost use Rattle.cpt_task_text.specs.Spelling.{spelling};
+ghost use Rattle.cpt_top.specs.Commands.{Answers, AsksJudging, AsksListing, AsksValidation, ComesTo, HoldJudgedPlan, HoldKept, HoldValidPlan, IsUsage, IsValidWithAbsence, MayWrite, Reaches, asked_of};
+ghost use Rattle.cpt_files.specs.Ending.{Answer};
+ghost use Rattle.cpt_files.specs.Files.{Gives};
+ghost use Rattle.cpt_files.specs.Lines.{memory_line, read_line, valid_line};
 ghost use Rattle.cpt_top.specs.Printing.{ended_answer, output, Writes, WritesAnswer};
 ghost use Rattle.cpt_top.specs.Verdicts.{reply_answer};
 
-use crate::ending::Ending;
+use crate::listing::list_task;
 use crate::printing::{put_ending, put_reply};
-use crate::validating::judge_files;
+use crate::validating::{judge_files, judge_problem};
 use crate::verdicts::Reply;
-use crate::words::validation;
+use crate::words::{Command, command_in};
+use cpt_files::Ending;
 use cpt_io::{Library, Sink};
 use std::alloc::Global;
+
+/// The result of the command, or how it ends.
+fn reply_to<L: Library>(alloc: Global, command: Command<'_>, lib: &mut L) -> Result<Reply, Ending>
+    requires { L.faults lib.old < 2 ^ 64 - 1 }
+    ensures answer { IfSome (L.holds lib.old) (λ files. Gives (L.steady lib.old) reply_answer result (Reaches files (asked_of command.entry))) }
+    ensures status { IfOk result (λ reply. reply.status ≤ 1) }
+    ensures known { result ≢ Err Ending.Usage }
+    ensures failed { result ≡ Err Ending.Read → L.faults lib.old < L.faults lib.new }
+    ensures kept { result ≢ Err Ending.Read → L.faults lib.new ≡ L.faults lib.old }
+{
+    match command {
+        Command::ValidateTask(task, plan) => judge_files(alloc, task, plan, lib),
+        Command::Validate(domain, problem, plan) => {
+            judge_problem(alloc, domain, problem, plan, lib)
+        }
+        Command::Ground(domain, problem) => list_task(alloc, domain, problem, lib),
+    }
+}
 
 /// The result that the words ask for, or how they end.
 fn reply_in<L: Library>(alloc: Global, words: &[String], lib: &mut L) -> Result<Reply, Ending>
@@ -27,8 +49,8 @@ fn reply_in<L: Library>(alloc: Global, words: &[String], lib: &mut L) -> Result<
     ensures failed { result ≡ Err Ending.Read → L.faults lib.old < L.faults lib.new }
     ensures kept { result ≢ Err Ending.Read → L.faults lib.new ≡ L.faults lib.old }
 {
-    match validation(words) {
-        Some((task_name, plan_name)) => judge_files(alloc, task_name, plan_name, lib),
+    match command_in(words) {
+        Some(command) => reply_to(alloc, command, lib),
         None => Err(Ending::Usage),
     }
 }
@@ -59,6 +81,24 @@ pub fn run<L: Library, K: Sink>(alloc: Global, words: &[String], lib: &mut L, ou
     ensures validates { IfSome (L.holds lib.old) (λ files. (task_name plan_name : List ℕ) (m : ℕ) → AsksValidation (map string_bytes words.now) task_name plan_name → HoldValidPlan files task_name plan_name m
         → K.faults out.new ≡ K.faults out.old → (L.faults lib.new ≡ L.faults lib.old) ⊎ IsTrue (L.steady lib.old)
         → (result ≡ 9) ⊎ ((result ≡ 0) × (K.written out.new ≡ append_known (K.written out.old) (valid_line m)))) }
+
+    // `validate` answers 0 only where the plan is valid for the ground task, and so for the reading with absence, and then its line
+    // with the makespan was written.
+    ensures judged { IfSome (L.holds lib.old) (λ files. (domain_name problem_name plan_name : List ℕ) → AsksJudging (map string_bytes words.now) domain_name problem_name plan_name → result ≡ 0
+        → (m : ℕ) × (held : HoldJudgedPlan files domain_name problem_name plan_name m) × IsValidWithAbsence held.domain held.problem (older_plan held.kept.actions held.plan.occs) m
+        × (K.written out.new ≡ append_known (K.written out.old) (valid_line m))) }
+    // Where the plan is valid for the ground task it answers 0, unless a read or a write fails or memory is refused.
+    ensures judges { IfSome (L.holds lib.old) (λ files. (domain_name problem_name plan_name : List ℕ) (m : ℕ) → AsksJudging (map string_bytes words.now) domain_name problem_name plan_name
+        → HoldJudgedPlan files domain_name problem_name plan_name m → K.faults out.new ≡ K.faults out.old → (L.faults lib.new ≡ L.faults lib.old) ⊎ IsTrue (L.steady lib.old)
+        → (result ≡ 9) ⊎ ((result ≡ 0) × (K.written out.new ≡ append_known (K.written out.old) (valid_line m)))) }
+
+    // `ground` answers 0 only where the files hold a domain and a problem, and then the spelling of their kept task was written.
+    ensures listed { IfSome (L.holds lib.old) (λ files. (domain_name problem_name : List ℕ) → AsksListing (map string_bytes words.now) domain_name problem_name → result ≡ 0
+        → (kept : Pruned) × HoldKept files domain_name problem_name kept × (K.written out.new ≡ append_known (K.written out.old) (spelling kept.task))) }
+    // Where they do it answers 0, unless a read or a write fails or memory is refused.
+    ensures lists { IfSome (L.holds lib.old) (λ files. (domain_name problem_name : List ℕ) (kept : Pruned) → AsksListing (map string_bytes words.now) domain_name problem_name
+        → HoldKept files domain_name problem_name kept → K.faults out.new ≡ K.faults out.old → (L.faults lib.new ≡ L.faults lib.old) ⊎ IsTrue (L.steady lib.old)
+        → (result ≡ 9) ⊎ ((result ≡ 0) × (K.written out.new ≡ append_known (K.written out.old) (spelling kept.task)))) }
 
     // A status below 7 comes only where it is the answer to the words over the files, and then the answer's text was written.
     ensures only { IfSome (L.holds lib.old) (λ files. result < 7

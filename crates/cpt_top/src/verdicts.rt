@@ -2,7 +2,7 @@
 
 ghost use Rattle.std.specs.Prelude.{◌≡◌, ◌≤◌, ◌∷◌, ◌++◌, [], codes, IfOk};
 ghost use Rattle.std.specs.Fmt.{decimal};
-ghost use Rattle.cpt_top.specs.Lines.{valid_line, overlap_line, lacks_line, missing_line};
+ghost use Rattle.cpt_files.specs.Lines.{valid_line, overlap_line, lacks_line, missing_line};
 ghost use Rattle.cpt_top.specs.Verdicts.{verdict_answer, verdict_status, verdict_text, reply_answer, line_at, atom_name};
 
 use cpt_task::{Task, Verdict};

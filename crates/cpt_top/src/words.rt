@@ -1,7 +1,18 @@
 //! The words of the command line.
 
-ghost use Rattle.std.specs.Prelude.{◌≡◌, ◌↔◌, codes, map, IsTrue, MatchOption, string_bytes};
-ghost use Rattle.cpt_top.specs.Commands.{AsksValidation, is_file_name};
+ghost use Rattle.std.specs.Prelude.{◌≡◌, ◌↔◌, map, IsTrue, MatchOption, string_bytes};
+ghost use Rattle.cpt_top.specs.Commands.{AsksJudging, AsksListing, AsksValidation, Asks, IsUsage, asked_of, is_file_name};
+
+/// What the words ask for, with the names of its files.
+#[derive(Clone, Copy)]
+pub enum Command<'a> {
+    /// To judge the plan of the second name over the task of the first.
+    ValidateTask(&'a str, &'a str),
+    /// To judge the plan of the third name over the domain and the problem of the first two.
+    Validate(&'a str, &'a str, &'a str),
+    /// To list the kept task of the domain and the problem.
+    Ground(&'a str, &'a str),
+}
 
 /// Whether the word is a name and no option.
 fn is_name(word: &str) -> bool
@@ -13,8 +24,14 @@ fn is_name(word: &str) -> bool
     }
 }
 
+fn is_word(word: &str, wanted: &str) -> bool
+    ensures { IsTrue result ↔ (word.now ≡ wanted.now) }
+{
+    word == wanted
+}
+
 /// The names of the task and of the plan, where these are asked to be judged.
-pub fn validation(words: &[String]) -> Option<(&str, &str)>
+fn validation(words: &[String]) -> Option<(&str, &str)>
     ensures { MatchOption result ((t p : _) → AsksValidation (map string_bytes words.now) t p → ⊥) (λ names. AsksValidation (map string_bytes words.now) names.0.now names.1.now) }
 {
     let [command, task, plan] = words else {
@@ -22,14 +39,59 @@ pub fn validation(words: &[String]) -> Option<(&str, &str)>
     };
     let task = task.as_str();
     let plan = plan.as_str();
-    if is_command(command.as_str()) && is_name(task) && is_name(plan) {
+    if is_word(command.as_str(), "validate-task") && is_name(task) && is_name(plan) {
         return Some((task, plan));
     }
     None
 }
 
-fn is_command(word: &str) -> bool
-    ensures { IsTrue result ↔ (word.now ≡ codes "validate-task") }
+/// The names of the domain, the problem and the plan, where these are asked to be judged.
+fn judging(words: &[String]) -> Option<(&str, &str, &str)>
+    ensures { MatchOption result ((d p n : _) → AsksJudging (map string_bytes words.now) d p n → ⊥) (λ names. AsksJudging (map string_bytes words.now) names.0.now names.1.now names.2.now) }
 {
-    word == "validate-task"
+    let [command, domain, problem, plan] = words else {
+        return None;
+    };
+    let domain = domain.as_str();
+    let problem = problem.as_str();
+    let plan = plan.as_str();
+    if is_word(command.as_str(), "validate")
+        && is_name(domain)
+        && is_name(problem)
+        && is_name(plan)
+    {
+        return Some((domain, problem, plan));
+    }
+    None
+}
+
+/// The names of the domain and the problem, where their kept task is asked for.
+fn listing(words: &[String]) -> Option<(&str, &str)>
+    ensures { MatchOption result ((d p : _) → AsksListing (map string_bytes words.now) d p → ⊥) (λ names. AsksListing (map string_bytes words.now) names.0.now names.1.now) }
+{
+    let [command, domain, problem] = words else {
+        return None;
+    };
+    let domain = domain.as_str();
+    let problem = problem.as_str();
+    if is_word(command.as_str(), "ground") && is_name(domain) && is_name(problem) {
+        return Some((domain, problem));
+    }
+    None
+}
+
+/// What the words ask for.
+pub fn command_in(words: &[String]) -> Option<Command<'_>>
+    ensures { MatchOption result (IsUsage (map string_bytes words.now)) (λ command. Asks (map string_bytes words.now) (asked_of command)) }
+{
+    if let Some((task, plan)) = validation(words) {
+        return Some(Command::ValidateTask(task, plan));
+    }
+    if let Some((domain, problem, plan)) = judging(words) {
+        return Some(Command::Validate(domain, problem, plan));
+    }
+    match listing(words) {
+        Some((domain, problem)) => Some(Command::Ground(domain, problem)),
+        None => None,
+    }
 }

@@ -1,5 +1,9 @@
+use Rattle.cpt_plan_text.proofs.Finding.{knows_actions}
 use Rattle.cpt_top.proofs.JudgingFiles.{judged}
 use Rattle.cpt_top.proofs.validating.judge_files.Goals as goal
+
+pub plan_in-requires-clause-known : goal.plan_in-requires-clause-known
+plan_in-requires-clause-known g c = knows_actions c.in-Ok.task
 
 pub returns-clause-answer : goal.returns-clause-answer
 returns-clause-answer g c =

@@ -1,0 +1,6 @@
+pub mod Accepting
+pub mod Giving
+pub mod Naming
+pub mod Once
+pub mod Reading
+pub mod Stages
