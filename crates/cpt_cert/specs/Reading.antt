@@ -49,6 +49,7 @@ cut c (b ∷ bs) = if b == c then Some ([], bs) else option_map (λ (p : List �
 abbrev pub is_numeral : List ℕ → Bool
 is_numeral word = nat_lt 0 (length word) && (nat_lt (length word) 17 && ((length word == 1 || not (slice_index_or word 0 0 == 48)) && all_ascii_digits word))
 
+-- a word that is a number
 unfoldable pub number_in : List ℕ → Option ℕ
 number_in word = if is_numeral word then Some (digits_value 10 word) else None
 
@@ -102,7 +103,7 @@ three_in (one ∷ two ∷ []) = None
 three_in (one ∷ two ∷ three ∷ []) = Some (one, two, three)
 three_in (one ∷ two ∷ three ∷ four ∷ words) = None
 
--- what stands behind the first two numbers of a step
+-- one word, which is read so
 unfoldable pub alone_number_in : List (List ℕ) → Option ℕ
 alone_number_in ws = do
   word ← only_in ws
@@ -128,6 +129,7 @@ alone_out_in ws = do
   word ← only_in ws
   out_in word
 
+-- two words, of which each is read so
 unfoldable pub cand_id_in : List (List ℕ) → Option (Cand × ℕ)
 cand_id_in ws = do
   two ← two_in ws
@@ -149,6 +151,7 @@ side_span_in ws = do
   v ← span_in two.1
   Some (after, v)
 
+-- three words, of which each is read so
 unfoldable pub id_side_span_in : List (List ℕ) → Option (ℕ × Bool × Span)
 id_side_span_in ws = do
   three ← three_in ws
@@ -179,6 +182,7 @@ two_numbers_in ws = do
   y ← number_in two.1
   Some (x, y)
 
+-- steps of the rules that tell the side
 abbrev pub r9 : ℕ → ℕ → ℕ × Bool → Step
 r9 x p (d, true) = R9After x p d
 r9 x p (d, false) = R9Ahead x p d
@@ -330,6 +334,7 @@ runs_in (word ∷ words) = do
   runs ← runs_in words
   Some (run ∷ runs)
 
+-- the tests of a row's two forms
 abbrev pub are_alone : List Run → Bool
 are_alone [] = true
 are_alone (run ∷ runs) = (run.count == 1) && are_alone runs
@@ -345,6 +350,7 @@ row_in words = do
   runs ← runs_in words
   if are_alone runs || are_runs runs then Some runs else None
 
+-- a line that begins with a word
 unfoldable pub named_in : List ℕ → List (List ℕ) → Option CertLine
 named_in head ws =
     if bytes_eq head (codes "h") then option_map (λ runs. lines.PairRow runs) (row_in ws)

@@ -102,6 +102,7 @@ fn id_side_and_span(words: &[&[u8]]) -> Option<(u32, bool, Span)>
     Some((number, after, to))
 }
 
+/// A step by the number of its rule, its first two numbers and the words behind them.
 #[tactic(auto, unfolding(crate::specs::Reading::step_in))]
 pub fn step(rule: u64, tok: u32, pre: u32, rest: &[&[u8]]) -> Option<Step>
     ensures { result ≡ step_in rule tok pre (map (λ w. w.now) rest.now) }
