@@ -25,6 +25,11 @@ pub holds_after : {A B : Type 0} → (Q : B → Type 0) (r : Result A Fault) (f 
 holds_after Q (Ok x) f g = g x
 holds_after Q (Err e) f g = tt
 
+-- two things that are so
+pub holds_both : {A : Type 0} → (P Q : A → Type 0) (r : Result A Fault) → Holds P r → Holds Q r → Holds (λ x. P x × Q x) r
+holds_both P Q (Ok x) h k = (h, k)
+holds_both P Q (Err e) h k = tt
+
 -- what is read after a test
 pub holds_if : {A : Type 0} → (P : A → Type 0) (b : Bool) (x y : Result A Fault) → (b ≡ true → Holds P x) → (b ≡ false → Holds P y) → Holds P (if b then x else y)
 holds_if P true x y h k = h refl

@@ -29,24 +29,24 @@ kinds names parents = record { names = names; parents = parents }
 
 -- a type among types
 
-has_append : (a b : List ℕ) (k : ℕ) → has (a ++ b) k ≡ (if has a k then true else has b k)
+pub has_append : (a b : List ℕ) (k : ℕ) → has (a ++ b) k ≡ (if has a k then true else has b k)
 has_append [] b k = refl
 has_append (x ∷ a) b k = by_test (x == k) (has_append a b k) where
   by_test : (t : Bool) → has (a ++ b) k ≡ (if has a k then true else has b k) → (if t then true else has (a ++ b) k) ≡ (if (if t then true else has a k) then true else has b k)
   by_test true e = refl
   by_test false e = e
 
-has_front : (a b : List ℕ) (k : ℕ) → has (a ++ b) k ≡ false → has a k ≡ false
+pub has_front : (a b : List ℕ) (k : ℕ) → has (a ++ b) k ≡ false → has a k ≡ false
 has_front a b k h = by_test (has a k) (sym (has_append a b k) ∙ h) where
   by_test : (t : Bool) → (if t then true else has b k) ≡ false → t ≡ false
   by_test true e = cc
   by_test false e = refl
 
-has_none : (ks : List ℕ) (k : ℕ) → ((i : ℕ) → i < length ks → slice_index ks i ≢ k) → has ks k ≡ false
+pub has_none : (ks : List ℕ) (k : ℕ) → ((i : ℕ) → i < length ks → slice_index ks i ≢ k) → has ks k ≡ false
 has_none [] k h = refl
 has_none (x ∷ ks) k h = unless _ _ (ne_eqb x k (h 0 (omega arith))) ∙ has_none ks k (λ i lt. h (suc i) (omega arith))
 
-has_all : (P : ℕ → Type 0) (ks : List ℕ) (k : ℕ) → All P ks → has ks k ≡ true → P k
+pub has_all : (P : ℕ → Type 0) (ks : List ℕ) (k : ℕ) → All P ks → has ks k ≡ true → P k
 has_all P [] k a h = absurd (cc)
 has_all P (x ∷ ks) k a h =
     elim (cases_eq x k) [
@@ -92,7 +92,7 @@ kept_value : (t : Bool) (v : ℕ) → (t ≡ true → v ≡ 0) → v ≡ (if t t
 kept_value true v h = h refl
 kept_value false v h = refl
 
-below_at : (p : ℕ) (ks qs : List ℕ) (j : ℕ) → j < length qs → (p ≡ 0 → has ks j ≡ true → get_or qs j 0 ≡ 0) → get_or (below_parent p ks qs) j 0 ≡ (if has ks j then p else get_or qs j 0)
+pub below_at : (p : ℕ) (ks qs : List ℕ) (j : ℕ) → j < length qs → (p ≡ 0 → has ks j ≡ true → get_or qs j 0 ≡ 0) → get_or (below_parent p ks qs) j 0 ≡ (if has ks j then p else get_or qs j 0)
 below_at zero ks qs j lt h = kept_value (has ks j) (get_or qs j 0) (h refl)
 below_at (suc p) ks qs j lt h = ap (λ ps. get_or ps j 0) (unless _ _ (ne_eqb (suc p) 0 (omega arith))) ∙ adopted_at (suc p) ks qs j lt
 
@@ -341,7 +341,7 @@ module _ (all : List (List ℕ)) (parents : List ℕ) (t : AreDistinct all) wher
       fresh settled ks now within =
           has_front settled ks now (has_none (settled ++ ks) now (λ i lt same. let z = within i 0 lt in omega (arith, z, same)))
 
-root_zero : (parents : List ℕ) → is_rooted parents ≡ true → slice_index parents 0 ≡ 0
+pub root_zero : (parents : List ℕ) → is_rooted parents ≡ true → slice_index parents 0 ≡ 0
 unfolding is_rooted
 root_zero parents h = eqb-true (slice_index parents 0) 0 (and_parts _ _ h).0
 
@@ -349,7 +349,7 @@ first_name : (all : List (List ℕ)) (w : List ℕ) → 0 < length all → named
 first_name [] w lt e = absurd (omega arith)
 first_name (v ∷ all) w lt e = ap (λ x. x ∷ []) (sym e)
 
-entries_real : (parents : List ℕ) (groups : List Siblings) → All (AreSiblings parents) groups → All (λ k. (0 < k) × (k < length parents)) (entries groups)
+pub entries_real : (parents : List ℕ) (groups : List Siblings) → All (AreSiblings parents) groups → All (λ k. (0 < k) × (k < length parents)) (entries groups)
 entries_real parents [] h = All-nil (λ k. (0 < k) × (k < length parents))
 entries_real parents (s ∷ groups) h =
     All-append (λ k. (0 < k) × (k < length parents)) s.kinds (entries groups) (All-head (AreSiblings parents) s groups h).real (entries_real parents groups (All-tail (AreSiblings parents) s groups h))
