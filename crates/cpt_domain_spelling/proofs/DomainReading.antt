@@ -1,19 +1,17 @@
 use Rattle.std.proofs.Common.{◌≡◌, ℕ, ◌++◌, ◌∷◌, [], Bool, true, false, List, length, map, All, refl, ap, ◌∙◌, sym, subst, arith}
 use Rattle.std.specs.Prelude.{Result, Ok, Err, codes}
 use Rattle.std.specs.List.{zip}
-use Rattle.std.proofs.lemmas.List.Elements.{All-map, All-nil, All-push, All-weaker}
+use Rattle.std.proofs.lemmas.List.Elements.{All-map, All-nil, All-push}
 use Rattle.cpt_sexp.specs.Grammar.{ForestShape}
 use Rattle.cpt_pddl.specs.declared.fault.Fault.{Fault}
 use Rattle.cpt_pddl.specs.declared.fault.Fault.TheVariants as faults
 use Rattle.cpt_pddl.specs.declared.typed.Sort.TheVariants.{Objects}
-use Rattle.cpt_pddl.specs.declared.typed.Typed.{Typed}
 use Rattle.cpt_pddl.specs.Items.{Items, end, word, group, said_by}
 use Rattle.cpt_pddl.specs.Reading.{after_word, group_at, name_at, nothing}
 use Rattle.cpt_pddl.specs.Typed.{no_names, typed_list}
 use Rattle.cpt_pddl.specs.Words.{is_name}
 use Rattle.cpt_declared.specs.declared.declared.Declared.{Declared}
 use Rattle.cpt_declared.specs.declared.kinds.Kinds.{Kinds}
-use Rattle.cpt_declared.specs.declared.signatures.Signatures.{Signatures}
 use Rattle.cpt_declared.specs.declared.signatures.Sort.{Sort}
 use Rattle.cpt_declared.specs.declared.signatures.Sort.TheVariants as signatures
 use Rattle.cpt_declared.specs.Kinds.{kinds_in}
@@ -25,7 +23,6 @@ use Rattle.cpt_domain.specs.declared.domain.Function.{Function}
 use Rattle.cpt_domain.specs.declared.domain.ObjectDecl.{ObjectDecl}
 use Rattle.cpt_domain.specs.declared.domain.Predicate.{Predicate}
 use Rattle.cpt_domain.specs.declared.domain.TypeDecl.{TypeDecl}
-use Rattle.cpt_domain.specs.declared.error.DomainError.{DomainError}
 use Rattle.cpt_domain.specs.declared.keys.Key.{Key}
 use Rattle.cpt_domain.specs.declared.keys.Key.TheVariants as keys
 use Rattle.cpt_domain.specs.declared.keys.Section as section
@@ -36,7 +33,7 @@ use Rattle.cpt_domain_spelling.proofs.KindReading.{Stand, kinds_stand}
 use Rattle.cpt_domain_spelling.proofs.OrderLemmas.{lesser_stand}
 use Rattle.cpt_domain.specs.Reading.{Part, assembled, definition, domain_in, domain_of, is_seen, key_of, name_in, nothing_read, part_by, part_in, parts_in, section_in, with_action, with_declared, with_section}
 use Rattle.cpt_domain_spelling.specs.Names.{named}
-use Rattle.cpt_domain_spelling.specs.Siblings.{IsArranged, Siblings, one_by_one}
+use Rattle.cpt_domain_spelling.specs.Siblings.{Siblings, one_by_one}
 use Rattle.cpt_domain_spelling.specs.Spellable.{AreNames, AreUnreserved, IsSpellable, IsTyped, IsWellFormed}
 use Rattle.cpt_domain_spelling.specs.Spelling.{declared_of}
 use Rattle.cpt_domain_spelling.proofs.HoldsLemmas.{Holds, holds_both, holds_after, holds_bind, holds_if, holds_ok}

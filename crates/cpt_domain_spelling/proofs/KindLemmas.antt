@@ -1,16 +1,15 @@
 use Rattle.std.proofs.Common.{◌≡◌, ◌≢◌, ℕ, zero, suc, ◌+◌, ◌<◌, ◌≤◌, max, ◌++◌, ◌∷◌, [], Bool, true, false, List, length, drop, take, set, get_or, All, inl, inr, refl, ap, ◌∙◌, sym, subst, arith}
-use Rattle.std.specs.Prelude.{◌⊎◌, ◌&&◌, ◌==◌, not, if◌then◌else◌, slice_index, slice_index_or, Result, Ok, Err, Option, None, Some, codes}
+use Rattle.std.specs.Prelude.{◌==◌, not, if◌then◌else◌, slice_index, Result, Ok, None, Some, codes}
 use Rattle.std.proofs.lemmas.Bool.{and_parts, and_right, cases_eq, cases_lt, eq-eqb, eqb-true, ne_eqb}
 use Rattle.std.proofs.lemmas.List.{append-nil, append_assoc, drop_at, drop_more, ext_get_or, get_or-set_other, get_or-set_same, get_or-take, get_or_append_left, get_or_at, length-append, length-set, length-take, take-append-drop, take_all, take_more}
 use Rattle.std.proofs.lemmas.List.Elements.{All-append, All-cons, All-head, All-nil, All-tail}
 use Rattle.cpt_sexp.specs.Printing.{Nest}
-use Rattle.cpt_sexp.specs.Printing as nest
 use Rattle.cpt_pddl.specs.declared.fault.Fault.{Fault}
 use Rattle.cpt_pddl.specs.Items.{Items}
 use Rattle.cpt_pddl.specs.Names.{place_in}
 use Rattle.cpt_pddl.specs.Words.{is_name}
 use Rattle.cpt_declared.specs.declared.kinds.Kinds.{Kinds}
-use Rattle.cpt_declared.specs.Kinds.{KindRun, adopted, below_parent, dashed, entered_as, finished, has, is_entered, is_rooted, kinds_in, kinds_rest, parent_as, taken}
+use Rattle.cpt_declared.specs.Kinds.{KindRun, adopted, below_parent, dashed, entered_as, finished, has, is_rooted, kinds_in, kinds_rest, parent_as, taken}
 use Rattle.cpt_domain.specs.SoundKinds.{AreBelow, AreKinds}
 use Rattle.cpt_domain.specs.SoundNames.{AreDifferent}
 use Rattle.cpt_domain_spelling.specs.Names.{named}

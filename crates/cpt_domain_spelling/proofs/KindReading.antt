@@ -1,5 +1,5 @@
-use Rattle.std.proofs.Common.{◌≡◌, ◌≢◌, ℕ, zero, suc, ◌+◌, ◌<◌, ◌≤◌, max, ◌++◌, ◌∷◌, [], Bool, true, false, nat_eq, List, length, drop, get_or, All, inl, inr, refl, ap, ◌∙◌, sym, subst, arith}
-use Rattle.std.specs.Prelude.{◌⊎◌, ◌&&◌, ◌==◌, not, if◌then◌else◌, slice_index, slice_index_or, Result, Ok, Err, Option, None, Some, codes}
+use Rattle.std.proofs.Common.{◌≡◌, ℕ, zero, suc, ◌+◌, ◌<◌, ◌≤◌, max, ◌++◌, ◌∷◌, [], Bool, true, false, nat_eq, List, length, drop, All, inl, inr, refl, ap, ◌∙◌, sym, subst, arith}
+use Rattle.std.specs.Prelude.{◌⊎◌, ◌&&◌, not, if◌then◌else◌, slice_index, slice_index_or, Ok, Err, Option, None, Some, codes}
 use Rattle.std.specs.Str.{bytes_eq}
 use Rattle.std.proofs.lemmas.Bool.{cases_lt, cases_Bool, eqb-false, ne_eqb}
 use Rattle.std.proofs.lemmas.List.{append-nil, append_assoc, drop_at, get_or_append_left, get_or_at, get_or_past, length-append}
@@ -10,11 +10,11 @@ use Rattle.cpt_pddl.specs.Names.{place_in}
 use Rattle.cpt_pddl.specs.Words.{is_name}
 use Rattle.cpt_declared.specs.declared.kinds.Kinds.{Kinds}
 use Rattle.cpt_declared.specs.Kinds.{KindRun, below_parent, dashed, entered_as, finished, has, is_entered, is_rooted, kinds_in, kinds_rest, parent_as, start, taken}
-use Rattle.cpt_domain_spelling.specs.Siblings.{AreByFirstPlace, AreSiblings, IsArranged, NoneTwice, Siblings, entries, mentions}
+use Rattle.cpt_domain_spelling.specs.Siblings.{AreByFirstPlace, AreSiblings, IsArranged, Siblings, entries, mentions}
 use Rattle.cpt_domain_spelling.proofs.HoldsLemmas.{Holds, holds_bind, holds_if, holds_ok, place_name}
 use Rattle.cpt_domain_spelling.proofs.ItemLemmas.{unless, when}
-use Rattle.cpt_domain_spelling.proofs.KindLemmas.{below_at, below_length, has_all, has_append, has_front, root_zero}
-use Rattle.cpt_domain_spelling.proofs.SetLemmas.{Apart, absent_apart, absent_below, absent_none, absent_real, absent_there, apart_join, apart_once, apart_split, first_known, first_push, has_above, has_back, has_index, has_left, has_neither, has_right, has_tail, known_after, known_push, proper, proper_all, proper_append, proper_back, proper_has}
+use Rattle.cpt_domain_spelling.proofs.KindLemmas.{below_at, below_length, has_front, root_zero}
+use Rattle.cpt_domain_spelling.proofs.SetLemmas.{Apart, absent_apart, absent_below, absent_none, absent_real, absent_there, apart_join, apart_once, apart_split, first_known, first_push, has_above, has_back, has_index, has_left, has_right, known_after, known_push, proper, proper_all, proper_append, proper_back, proper_has}
 
 -- So many types are known, with these parents. Those that were entered stand in groups, up to the last parent, or are
 -- left behind it.

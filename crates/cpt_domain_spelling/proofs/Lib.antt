@@ -12,6 +12,7 @@ mod KindReading
 mod NameLemmas
 mod NameReading
 mod OrderLemmas
+mod SampleLemmas
 mod SchemaLemmas
 mod SchemaTyping
 mod SetLemmas

@@ -1,4 +1,4 @@
-use Rattle.std.specs.Prelude.{◌≡◌, ℕ, Bool, ◌<◌, ◌≤◌, true, List, [], length, slice_index_or, All, Ok, None, codes}
+use Rattle.std.specs.Prelude.{◌≡◌, ℕ, Bool, ◌≤◌, true, List, [], length, slice_index_or, All, Ok, None, codes}
 use Rattle.cpt_sexp.specs.Grammar.{ForestShape}
 use Rattle.cpt_sexp.specs.Printing.{nothing, name, list, nest_of}
 use Rattle.cpt_pddl.specs.declared.typed.Sort.{Sort}

@@ -1,6 +1,7 @@
 //! The laws.
 
 ghost use Rattle.cpt_domain_spelling.specs.Laws.{ActionsReadBack, ConditionsReadBack, DomainsReadBack, DurationsReadBack, EffectsReadBack, FunctionsReadBack, PredicatesReadBack, ReadActionsAreTyped, ReadDomainsAreSpellable, ReadDomainsAreWellFormed, ReadTypesAreArranged, TermsReadBack, TypedListsReadBack, TypesReadBack};
+ghost use Rattle.cpt_domain_spelling.specs.Sample.{LampsAreSpelled};
 ghost use Rattle.cpt_domain_spelling.specs.Siblings.{LesserParentsStand};
 ghost use Rattle.cpt_domain_spelling.specs.Texts.{TextsReadBack};
 
@@ -87,4 +88,9 @@ pub fn read_types_are_arranged()
 /// Each sound domain that is read has a spelling: so the domains with a spelling are those that are read of some text.
 pub fn read_domains_are_spellable()
     ensures { ReadDomainsAreSpellable }
+{}
+
+/// A domain of lamps is spelled as its text says.
+pub fn lamps_are_spelled()
+    ensures { LampsAreSpelled }
 {}
