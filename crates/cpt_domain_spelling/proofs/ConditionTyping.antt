@@ -1,4 +1,4 @@
-use Rattle.std.proofs.Common.{◌≡◌, ℕ, ◌++◌, ◌∷◌, [], Bool, true, false, List, length, All, refl, ap, ◌∙◌}
+use Rattle.std.proofs.Common.{◌≡◌, ℕ, ◌++◌, ◌∷◌, [], Bool, true, false, List, All, refl, ap, ◌∙◌}
 use Rattle.std.specs.Prelude.{Result, Ok, Err}
 use Rattle.std.proofs.lemmas.List.Elements.{All-push}
 use Rattle.cpt_pddl.specs.declared.fault.Feature.TheVariants as features
@@ -15,7 +15,6 @@ use Rattle.cpt_declared.specs.Signatures.{is_reserved}
 use Rattle.cpt_schema.specs.declared.terms.Lit.{Lit}
 use Rattle.cpt_schema.specs.Conditions.{Conds, absent_atom, after_all, after_moment, at_moment, condition_by, condition_in, conditions_in, equation, has_group_side, is_full, negated, negated_by, negated_group, over_all, present, tagged, term_next, timed_by, timed_condition_in, timed_conditions_in, two_terms}
 use Rattle.cpt_schema.specs.Terms.{atom_in}
-use Rattle.cpt_domain_spelling.specs.Names.{named}
 use Rattle.cpt_domain_spelling.specs.Spellable.{AreUnreserved, IsFreeAtom, IsTypedAtom, is_free}
 use Rattle.cpt_domain_spelling.proofs.HoldsLemmas.{Holds, grouped, holds_after, holds_bind, holds_if}
 use Rattle.cpt_domain_spelling.proofs.TermTyping.{AtomRead, atom_typed}

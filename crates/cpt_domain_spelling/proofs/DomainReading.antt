@@ -1,19 +1,17 @@
 use Rattle.std.proofs.Common.{◌≡◌, ℕ, ◌++◌, ◌∷◌, [], Bool, true, false, List, length, map, All, refl, ap, ◌∙◌, sym, subst, arith}
 use Rattle.std.specs.Prelude.{Result, Ok, Err, codes}
 use Rattle.std.specs.List.{zip}
-use Rattle.std.proofs.lemmas.List.Elements.{All-map, All-nil, All-push, All-weaker}
+use Rattle.std.proofs.lemmas.List.Elements.{All-map, All-nil, All-push}
 use Rattle.cpt_sexp.specs.Grammar.{ForestShape}
 use Rattle.cpt_pddl.specs.declared.fault.Fault.{Fault}
 use Rattle.cpt_pddl.specs.declared.fault.Fault.TheVariants as faults
 use Rattle.cpt_pddl.specs.declared.typed.Sort.TheVariants.{Objects}
-use Rattle.cpt_pddl.specs.declared.typed.Typed.{Typed}
 use Rattle.cpt_pddl.specs.Items.{Items, end, word, group, said_by}
 use Rattle.cpt_pddl.specs.Reading.{after_word, group_at, name_at, nothing}
 use Rattle.cpt_pddl.specs.Typed.{no_names, typed_list}
 use Rattle.cpt_pddl.specs.Words.{is_name}
 use Rattle.cpt_declared.specs.declared.declared.Declared.{Declared}
 use Rattle.cpt_declared.specs.declared.kinds.Kinds.{Kinds}
-use Rattle.cpt_declared.specs.declared.signatures.Signatures.{Signatures}
 use Rattle.cpt_declared.specs.declared.signatures.Sort.{Sort}
 use Rattle.cpt_declared.specs.declared.signatures.Sort.TheVariants as signatures
 use Rattle.cpt_declared.specs.Kinds.{kinds_in}
@@ -25,23 +23,27 @@ use Rattle.cpt_domain.specs.declared.domain.Function.{Function}
 use Rattle.cpt_domain.specs.declared.domain.ObjectDecl.{ObjectDecl}
 use Rattle.cpt_domain.specs.declared.domain.Predicate.{Predicate}
 use Rattle.cpt_domain.specs.declared.domain.TypeDecl.{TypeDecl}
-use Rattle.cpt_domain.specs.declared.error.DomainError.{DomainError}
 use Rattle.cpt_domain.specs.declared.keys.Key.{Key}
 use Rattle.cpt_domain.specs.declared.keys.Key.TheVariants as keys
 use Rattle.cpt_domain.specs.declared.keys.Section as section
 use Rattle.cpt_domain.specs.declared.keys.Section.TheVariants.{Requirements, Types, Constants, Predicates, Functions}
 use Rattle.cpt_domain.specs.Errors.{of_domain}
+use Rattle.cpt_domain.specs.Sound.{IsSound}
+use Rattle.cpt_domain_spelling.proofs.KindReading.{Stand, kinds_stand}
+use Rattle.cpt_domain_spelling.proofs.OrderLemmas.{lesser_stand}
 use Rattle.cpt_domain.specs.Reading.{Part, assembled, definition, domain_in, domain_of, is_seen, key_of, name_in, nothing_read, part_by, part_in, parts_in, section_in, with_action, with_declared, with_section}
 use Rattle.cpt_domain_spelling.specs.Names.{named}
-use Rattle.cpt_domain_spelling.specs.Spellable.{AreNames, AreUnreserved, IsTyped, IsWellFormed}
+use Rattle.cpt_domain_spelling.specs.Siblings.{Siblings, one_by_one}
+use Rattle.cpt_domain_spelling.specs.Spellable.{AreNames, AreUnreserved, IsSpellable, IsTyped, IsWellFormed}
 use Rattle.cpt_domain_spelling.specs.Spelling.{declared_of}
-use Rattle.cpt_domain_spelling.proofs.HoldsLemmas.{Holds, holds_after, holds_bind, holds_if, holds_ok}
+use Rattle.cpt_domain_spelling.proofs.HoldsLemmas.{Holds, holds_both, holds_after, holds_bind, holds_if, holds_ok}
 use Rattle.cpt_domain_spelling.proofs.NameReading.{KindsRead, SignaturesRead, TypedRead, functions_read, kinds_read, object_read, predicates_read, typed_read}
 use Rattle.cpt_domain_spelling.proofs.SchemaTyping.{SchemaRead, name_read, schema_read}
 
 -- what is declared so far
 record DeclaredRead (d : Declared) : Type 0 where
   types : KindsRead d.types.names d.types.parents
+  stood : Stand d.types.parents
   constants : TypedRead Objects d.constants
   predicates : SignaturesRead signatures.Predicates d.predicates
   functions : SignaturesRead signatures.Functions d.functions
@@ -61,19 +63,20 @@ no_names_read = record { names = All-nil (λ w. is_name w ≡ true); lengths = r
 section_read : (s : section.Section) (d : Declared) (at : ℕ) (items : Items) → DeclaredRead d → Holds DeclaredRead (section_in s d at items)
 section_read Requirements d at items h = holds_after DeclaredRead (words_only items) (λ _. Ok d) (λ _. h)
 section_read Types d at items h =
-    holds_bind (λ (k : Kinds). KindsRead k.names k.parents) DeclaredRead (kinds_in at items) (λ types. Ok (record d { types = types })) (kinds_read at items)
-    (λ types k. record { types = k; constants = h.constants; predicates = h.predicates; functions = h.functions })
+    holds_bind (λ (k : Kinds). KindsRead k.names k.parents × Stand k.parents) DeclaredRead (kinds_in at items) (λ types. Ok (record d { types = types }))
+    (holds_both (λ (k : Kinds). KindsRead k.names k.parents) (λ (k : Kinds). Stand k.parents) (kinds_in at items) (kinds_read at items) (kinds_stand at items))
+    (λ types k. record { types = k.0; stood = k.1; constants = h.constants; predicates = h.predicates; functions = h.functions })
 section_read Constants d at items h =
     holds_bind (TypedRead Objects) DeclaredRead (typed_list Objects d.types.names no_names items) (λ constants. Ok (record d { constants = constants })) (typed_read Objects d.types.names items)
-    (λ constants k. record { types = h.types; constants = k; predicates = h.predicates; functions = h.functions })
+    (λ constants k. record { types = h.types; stood = h.stood; constants = k; predicates = h.predicates; functions = h.functions })
 section_read Predicates d at items h =
     holds_bind (SignaturesRead signatures.Predicates) DeclaredRead (predicates_in d.types.names no_signatures items) (λ sigs. Ok (record d { predicates = sigs }))
     (predicates_read d.types.names no_signatures items (no_signatures_read signatures.Predicates))
-    (λ sigs k. record { types = h.types; constants = h.constants; predicates = k; functions = h.functions })
+    (λ sigs k. record { types = h.types; stood = h.stood; constants = h.constants; predicates = k; functions = h.functions })
 section_read Functions d at items h =
     holds_bind (SignaturesRead signatures.Functions) DeclaredRead (functions_in d.types.names no_signatures items) (λ sigs. Ok (record d { functions = sigs }))
     (functions_read d.types.names no_signatures items (no_signatures_read signatures.Functions))
-    (λ sigs k. record { types = h.types; constants = h.constants; predicates = h.predicates; functions = k })
+    (λ sigs k. record { types = h.types; stood = h.stood; constants = h.constants; predicates = h.predicates; functions = k })
 
 declared_read : (s : section.Section) (p : Part) (at keyword : ℕ) (items : Items) → PartRead p → Holds PartRead (with_declared s p at keyword items)
 unfolding with_declared
@@ -110,7 +113,7 @@ parts_read p (group at inside rest) h = holds_bind PartRead PartRead (part_in p 
 
 start_read : PartRead nothing_read
 start_read = record {
-  declared = record { types = object_read; constants = no_names_read; predicates = no_signatures_read signatures.Predicates; functions = no_signatures_read signatures.Functions };
+  declared = record { types = object_read; stood = (one_by_one 1 [], lesser_stand (0 ∷ []) (λ kind some lt. absurd (omega arith))); constants = no_names_read; predicates = no_signatures_read signatures.Predicates; functions = no_signatures_read signatures.Functions };
   actions = All-nil (SchemaRead nothing_read.declared);
   idle = λ e. refl;
 }
@@ -156,10 +159,16 @@ declared_back name p h =
     ∙ ap (λ x. make d.types.names d.types.parents d.constants.names d.constants.kinds d.predicates.names d.predicates.kinds x k.functions.kinds) i
     ∙ ap (λ x. make d.types.names d.types.parents d.constants.names d.constants.kinds d.predicates.names d.predicates.kinds d.functions.names x) j
 
-formed : (name : List ℕ) (p : Part) → is_name name ≡ true → PartRead p → IsWellFormed (assembled name p)
-formed name p own h =
+-- a domain that is read is well formed, and its types stand in some groups
+record DomainRead (d : Domain) : Type 0 where
+  formed : IsWellFormed d
+  stood : Stand (declared_of d).types.parents
+
+whole_read : (name : List ℕ) (p : Part) → is_name name ≡ true → PartRead p → DomainRead (assembled name p)
+whole_read name p own h =
     let same = sym (declared_back name p h.declared) in
     let k = h.declared in
+    let words : IsWellFormed (assembled name p) =
     record {
       name = own;
       types = subst (λ (d : Declared). AreNames d.types.names) same k.types.names;
@@ -170,28 +179,39 @@ formed name p own h =
       functions = subst (λ (d : Declared). AreNames d.functions.names) same k.functions.names;
       actions = All-map (λ n. is_name n ≡ true) (λ (s : Schema). s.name) p.schemas (λ i x lt. (h.actions i x lt).name);
       typed = subst (λ d. All (IsTyped d) p.schemas) same (λ i x lt. (h.actions i x lt).typed);
-    }
+    } in
+    record { formed = words; stood = subst (λ (d : Declared). Stand d.types.parents) same k.stood }
 
-domain_formed : (items : Items) → Holds IsWellFormed (domain_in items)
+domain_is_read : (items : Items) → Holds DomainRead (domain_in items)
 unfolding domain_in definition name_in
-domain_formed items =
-    holds_after IsWellFormed (group_at items) _
-    (λ found. holds_bind IsWellFormed IsWellFormed (definition found.1) _
-    (holds_after IsWellFormed (after_word (codes "define") found.1) _
-    (λ rest. holds_after IsWellFormed (group_at rest) _
-    (λ head. holds_bind (λ name. is_name name ≡ true) IsWellFormed (name_in head.1) _
+domain_is_read items =
+    holds_after DomainRead (group_at items) _
+    (λ found. holds_bind DomainRead DomainRead (definition found.1) _
+    (holds_after DomainRead (after_word (codes "define") found.1) _
+    (λ rest. holds_after DomainRead (group_at rest) _
+    (λ head. holds_bind (λ name. is_name name ≡ true) DomainRead (name_in head.1) _
     (holds_after (λ name. is_name name ≡ true) (after_word (codes "domain") head.1) _
     (λ after. holds_bind (λ (n : ℕ × List ℕ × Items). is_name n.1 ≡ true) (λ name. is_name name ≡ true) (name_at after) _ (name_read after)
     (λ name own. holds_after (λ name. is_name name ≡ true) (nothing name.2) (λ _. Ok name.1) (λ _. own))))
-    (λ name own. holds_bind PartRead IsWellFormed (parts_in nothing_read head.2) (λ whole. Ok (assembled name whole)) (parts_read nothing_read head.2 start_read)
-    (λ whole h. formed name whole own h)))))
-    (λ domain k. holds_after IsWellFormed (nothing found.2) (λ _. Ok domain) (λ _. k)))
+    (λ name own. holds_bind PartRead DomainRead (parts_in nothing_read head.2) (λ whole. Ok (assembled name whole)) (parts_read nothing_read head.2 start_read)
+    (λ whole h. whole_read name whole own h)))))
+    (λ domain k. holds_after DomainRead (nothing found.2) (λ _. Ok domain) (λ _. k)))
 
 read_of : (r : Result Domain Fault) (d : Domain) → of_domain r ≡ Ok d → r ≡ Ok d
 read_of (Ok x) d e = let same : x ≡ d = cc in ap (λ y. Ok y) same
 read_of (Err f) d e = absurd (cc)
 
--- each domain that is read is well formed
-pub domain_read : (d : Domain) (forest : ForestShape) → domain_of forest ≡ Ok d → IsWellFormed d
+domain_parts : (d : Domain) (forest : ForestShape) → domain_of forest ≡ Ok d → DomainRead d
 unfolding domain_of
-domain_read d forest e = holds_ok IsWellFormed (domain_in (said_by forest)) d (read_of (domain_in (said_by forest)) d e) (domain_formed (said_by forest))
+domain_parts d forest e = holds_ok DomainRead (domain_in (said_by forest)) d (read_of (domain_in (said_by forest)) d e) (domain_is_read (said_by forest))
+
+-- each domain that is read is well formed
+pub domain_formed : (d : Domain) (forest : ForestShape) → domain_of forest ≡ Ok d → IsWellFormed d
+domain_formed d forest e = (domain_parts d forest e).formed
+
+-- each sound domain that is read has a spelling
+pub domain_spelled : (d : Domain) (forest : ForestShape) → IsSound d → domain_of forest ≡ Ok d → (groups : List Siblings) × IsSpellable d groups
+domain_spelled d forest sound e =
+    let h = domain_parts d forest e in
+    let stood = h.stood in
+    (stood.0, record { sound = sound; formed = h.formed; arranged = stood.1 })

@@ -117,6 +117,22 @@ module _ (d : Declared) (params : List ℕ) (tag : ℕ) (h : HasSpelling d) (few
       ∙ bound _ (delete_back dels g.at lit g.inside (All-head (AtomOf d params) lit lits a) (omega (arith, total, long, room)) g.within)
       (deletes_back lits all (dels ++ one ∷ []) g.more rest r (All-tail (AtomOf d params) lit lits a) (e ∙ sym (append_assoc dels (one ∷ []) (marks true lits))) room g.said go)
 
+-- what is in the group of the effects is read as they are
+inside_back : (d : Declared) (s : Schema) (tag at : ℕ) (items : Items) → HasSpelling d → IsSoundOver d s → IsTyped d s → says items ≡ effects_nest d s
+    → effect_in d (parameters_of s.kinds) (End tag) no_effs at items ≡ Ok (effs (marks false s.add) (marks true s.dele))
+inside_back d s tag at items h sound typed said =
+    let a = word_there items (codes "and") _ said in
+    let few = sound.kinds.few in
+    let adds = length_marks false s.add in
+    let dels = length_marks true s.dele in
+    let few_adds = sound.few_adds in
+    let few_dels = sound.few_deletes in
+    ap (effect_in d (parameters_of s.kinds) (End tag) no_effs at) a.is
+    ∙ ap (effect_by d (parameters_of s.kinds) (End tag) no_effs at a.at (codes "and") a.more (effects_in d (parameters_of s.kinds) (End tag) no_effs a.more)) head_and
+    ∙ deletes_back d s.kinds tag h few s.dele (marks true s.dele) [] a.more _ _ (λ k x lt. record { sound = sound.dele k x lt; typed = typed.dele k x lt }) refl (omega (arith, dels, few_dels)) a.said
+    (λ more e. adds_back d s.kinds tag h few s.add (marks false s.add) [] (marks true s.dele) more (λ k x lt. record { sound = sound.add k x lt; typed = typed.add k x lt }) typed.free_add refl
+    (omega (arith, adds, few_adds)) e)
+
 -- the effects at the end of an action are read as they are
 pub effects_back : (d : Declared) (s : Schema) (at : ℕ) (items : Items) → HasSpelling d → IsSoundOver d s → IsTyped d s
     → says items ≡ nest.name (codes "at") (nest.name (codes "end") (nest.list (effects_nest d s) nest.nothing))
@@ -127,21 +143,10 @@ effects_back d s at items h sound typed said =
     let v = word_there w.more (codes "end") _ w.said in
     let g = group_there v.more _ _ v.said in
     let last = end_there g.more g.said in
-    let a = word_there g.inside (codes "and") _ g.within in
-    let few = sound.kinds.few in
-    let adds = length_marks false s.add in
-    let dels = length_marks true s.dele in
-    let few_adds = sound.few_adds in
-    let few_dels = sound.few_deletes in
     ap (timed_effect_in d (parameters_of s.kinds) no_effs at) w.is
     ∙ ap (timed_effect_by d (parameters_of s.kinds) no_effs at w.at w.more _) head_at
     ∙ bound _ (ap (tag_next at) v.is)
-    (bound _ (ap group_at g.is)
-    (bound _ (ap (effect_in d (parameters_of s.kinds) (End at) no_effs g.at) a.is
-    ∙ ap (effect_by d (parameters_of s.kinds) (End at) no_effs g.at a.at (codes "and") a.more (effects_in d (parameters_of s.kinds) (End at) no_effs a.more)) head_and
-    ∙ deletes_back d s.kinds at h few s.dele (marks true s.dele) [] a.more _ _ (λ k x lt. record { sound = sound.dele k x lt; typed = typed.dele k x lt }) refl (omega (arith, dels, few_dels)) a.said
-    (λ more e. adds_back d s.kinds at h few s.add (marks false s.add) [] (marks true s.dele) more (λ k x lt. record { sound = sound.add k x lt; typed = typed.add k x lt }) typed.free_add refl (omega (arith, adds, few_adds)) e))
-    (bound _ (ap nothing last.is) refl)))
+    (bound _ (ap group_at g.is) (bound _ (inside_back d s at g.at g.inside h sound typed g.within) (bound _ (ap nothing last.is) refl)))
 
 -- and their atoms are those that the action adds and deletes
 pub effects_read : (d : Declared) (s : Schema) (at : ℕ) (items : Items) → HasSpelling d → IsSoundOver d s → IsTyped d s

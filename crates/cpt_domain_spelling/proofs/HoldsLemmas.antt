@@ -1,5 +1,5 @@
 use Rattle.std.proofs.Common.{◌≡◌, ℕ, suc, ◌+◌, ◌<◌, ◌∷◌, [], Bool, true, false, List, length, inl, inr, refl, ap, ◌∙◌, sym, subst, arith}
-use Rattle.std.specs.Prelude.{◌⊎◌, if◌then◌else◌, slice_index_or, Result, Ok, Err, Option, None, Some}
+use Rattle.std.specs.Prelude.{◌⊎◌, if◌then◌else◌, Result, Ok, Err, Option, None, Some}
 use Rattle.std.specs.Str.{bytes_eq}
 use Rattle.std.proofs.lemmas.Slice.Eq.{bytes_eq-Decides}
 use Rattle.cpt_pddl.specs.declared.fault.Fault.{Fault}
@@ -24,6 +24,11 @@ holds_bind P Q (Err e) f h g = tt
 pub holds_after : {A B : Type 0} → (Q : B → Type 0) (r : Result A Fault) (f : A → Result B Fault) → ((x : A) → Holds Q (f x)) → Holds Q (r >>= f)
 holds_after Q (Ok x) f g = g x
 holds_after Q (Err e) f g = tt
+
+-- two things that are so
+pub holds_both : {A : Type 0} → (P Q : A → Type 0) (r : Result A Fault) → Holds P r → Holds Q r → Holds (λ x. P x × Q x) r
+holds_both P Q (Ok x) h k = (h, k)
+holds_both P Q (Err e) h k = tt
 
 -- what is read after a test
 pub holds_if : {A : Type 0} → (P : A → Type 0) (b : Bool) (x y : Result A Fault) → (b ≡ true → Holds P x) → (b ≡ false → Holds P y) → Holds P (if b then x else y)

@@ -1,16 +1,15 @@
 use Rattle.std.proofs.Common.{◌≡◌, ◌≢◌, ℕ, zero, suc, ◌+◌, ◌<◌, ◌≤◌, max, ◌++◌, ◌∷◌, [], Bool, true, false, List, length, drop, take, set, get_or, All, inl, inr, refl, ap, ◌∙◌, sym, subst, arith}
-use Rattle.std.specs.Prelude.{◌⊎◌, ◌&&◌, ◌==◌, not, if◌then◌else◌, slice_index, slice_index_or, Result, Ok, Err, Option, None, Some, codes}
+use Rattle.std.specs.Prelude.{◌==◌, not, if◌then◌else◌, slice_index, Result, Ok, None, Some, codes}
 use Rattle.std.proofs.lemmas.Bool.{and_parts, and_right, cases_eq, cases_lt, eq-eqb, eqb-true, ne_eqb}
 use Rattle.std.proofs.lemmas.List.{append-nil, append_assoc, drop_at, drop_more, ext_get_or, get_or-set_other, get_or-set_same, get_or-take, get_or_append_left, get_or_at, length-append, length-set, length-take, take-append-drop, take_all, take_more}
 use Rattle.std.proofs.lemmas.List.Elements.{All-append, All-cons, All-head, All-nil, All-tail}
 use Rattle.cpt_sexp.specs.Printing.{Nest}
-use Rattle.cpt_sexp.specs.Printing as nest
 use Rattle.cpt_pddl.specs.declared.fault.Fault.{Fault}
 use Rattle.cpt_pddl.specs.Items.{Items}
 use Rattle.cpt_pddl.specs.Names.{place_in}
 use Rattle.cpt_pddl.specs.Words.{is_name}
 use Rattle.cpt_declared.specs.declared.kinds.Kinds.{Kinds}
-use Rattle.cpt_declared.specs.Kinds.{KindRun, adopted, below_parent, dashed, entered_as, finished, has, is_entered, is_rooted, kinds_in, kinds_rest, parent_as, taken}
+use Rattle.cpt_declared.specs.Kinds.{KindRun, adopted, below_parent, dashed, entered_as, finished, has, is_rooted, kinds_in, kinds_rest, parent_as, taken}
 use Rattle.cpt_domain.specs.SoundKinds.{AreBelow, AreKinds}
 use Rattle.cpt_domain.specs.SoundNames.{AreDifferent}
 use Rattle.cpt_domain_spelling.specs.Names.{named}
@@ -29,24 +28,24 @@ kinds names parents = record { names = names; parents = parents }
 
 -- a type among types
 
-has_append : (a b : List ℕ) (k : ℕ) → has (a ++ b) k ≡ (if has a k then true else has b k)
+pub has_append : (a b : List ℕ) (k : ℕ) → has (a ++ b) k ≡ (if has a k then true else has b k)
 has_append [] b k = refl
 has_append (x ∷ a) b k = by_test (x == k) (has_append a b k) where
   by_test : (t : Bool) → has (a ++ b) k ≡ (if has a k then true else has b k) → (if t then true else has (a ++ b) k) ≡ (if (if t then true else has a k) then true else has b k)
   by_test true e = refl
   by_test false e = e
 
-has_front : (a b : List ℕ) (k : ℕ) → has (a ++ b) k ≡ false → has a k ≡ false
+pub has_front : (a b : List ℕ) (k : ℕ) → has (a ++ b) k ≡ false → has a k ≡ false
 has_front a b k h = by_test (has a k) (sym (has_append a b k) ∙ h) where
   by_test : (t : Bool) → (if t then true else has b k) ≡ false → t ≡ false
   by_test true e = cc
   by_test false e = refl
 
-has_none : (ks : List ℕ) (k : ℕ) → ((i : ℕ) → i < length ks → slice_index ks i ≢ k) → has ks k ≡ false
+pub has_none : (ks : List ℕ) (k : ℕ) → ((i : ℕ) → i < length ks → slice_index ks i ≢ k) → has ks k ≡ false
 has_none [] k h = refl
 has_none (x ∷ ks) k h = unless _ _ (ne_eqb x k (h 0 (omega arith))) ∙ has_none ks k (λ i lt. h (suc i) (omega arith))
 
-has_all : (P : ℕ → Type 0) (ks : List ℕ) (k : ℕ) → All P ks → has ks k ≡ true → P k
+pub has_all : (P : ℕ → Type 0) (ks : List ℕ) (k : ℕ) → All P ks → has ks k ≡ true → P k
 has_all P [] k a h = absurd (cc)
 has_all P (x ∷ ks) k a h =
     elim (cases_eq x k) [
@@ -92,7 +91,7 @@ kept_value : (t : Bool) (v : ℕ) → (t ≡ true → v ≡ 0) → v ≡ (if t t
 kept_value true v h = h refl
 kept_value false v h = refl
 
-below_at : (p : ℕ) (ks qs : List ℕ) (j : ℕ) → j < length qs → (p ≡ 0 → has ks j ≡ true → get_or qs j 0 ≡ 0) → get_or (below_parent p ks qs) j 0 ≡ (if has ks j then p else get_or qs j 0)
+pub below_at : (p : ℕ) (ks qs : List ℕ) (j : ℕ) → j < length qs → (p ≡ 0 → has ks j ≡ true → get_or qs j 0 ≡ 0) → get_or (below_parent p ks qs) j 0 ≡ (if has ks j then p else get_or qs j 0)
 below_at zero ks qs j lt h = kept_value (has ks j) (get_or qs j 0) (h refl)
 below_at (suc p) ks qs j lt h = ap (λ ps. get_or ps j 0) (unless _ _ (ne_eqb (suc p) 0 (omega arith))) ∙ adopted_at (suc p) ks qs j lt
 
@@ -341,7 +340,7 @@ module _ (all : List (List ℕ)) (parents : List ℕ) (t : AreDistinct all) wher
       fresh settled ks now within =
           has_front settled ks now (has_none (settled ++ ks) now (λ i lt same. let z = within i 0 lt in omega (arith, z, same)))
 
-root_zero : (parents : List ℕ) → is_rooted parents ≡ true → slice_index parents 0 ≡ 0
+pub root_zero : (parents : List ℕ) → is_rooted parents ≡ true → slice_index parents 0 ≡ 0
 unfolding is_rooted
 root_zero parents h = eqb-true (slice_index parents 0) 0 (and_parts _ _ h).0
 
@@ -349,7 +348,7 @@ first_name : (all : List (List ℕ)) (w : List ℕ) → 0 < length all → named
 first_name [] w lt e = absurd (omega arith)
 first_name (v ∷ all) w lt e = ap (λ x. x ∷ []) (sym e)
 
-entries_real : (parents : List ℕ) (groups : List Siblings) → All (AreSiblings parents) groups → All (λ k. (0 < k) × (k < length parents)) (entries groups)
+pub entries_real : (parents : List ℕ) (groups : List Siblings) → All (AreSiblings parents) groups → All (λ k. (0 < k) × (k < length parents)) (entries groups)
 entries_real parents [] h = All-nil (λ k. (0 < k) × (k < length parents))
 entries_real parents (s ∷ groups) h =
     All-append (λ k. (0 < k) × (k < length parents)) s.kinds (entries groups) (All-head (AreSiblings parents) s groups h).real (entries_real parents groups (All-tail (AreSiblings parents) s groups h))

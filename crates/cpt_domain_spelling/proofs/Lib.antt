@@ -8,11 +8,14 @@ mod EffectTyping
 mod HoldsLemmas
 mod ItemLemmas
 mod KindLemmas
+mod KindReading
 mod NameLemmas
 mod NameReading
 mod OrderLemmas
+mod SampleLemmas
 mod SchemaLemmas
 mod SchemaTyping
+mod SetLemmas
 mod SignatureLemmas
 mod SpellingLemmas
 mod TermLemmas

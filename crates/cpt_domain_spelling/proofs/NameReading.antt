@@ -1,5 +1,5 @@
-use Rattle.std.proofs.Common.{◌≡◌, ℕ, suc, ◌+◌, ◌-◌, ◌<◌, ◌≤◌, ◌++◌, ◌∷◌, [], Bool, true, false, List, length, drop, nat_eq, All, refl, ap, ◌∙◌, sym, arith}
-use Rattle.std.specs.Prelude.{is_some, nat_le, replicate, slice_index_or, Result, Ok, Err, Option, None, Some, codes}
+use Rattle.std.proofs.Common.{◌≡◌, ℕ, ◌+◌, ◌-◌, ◌<◌, ◌≤◌, ◌++◌, ◌∷◌, [], true, false, List, length, drop, nat_eq, All, refl, ◌∙◌, arith}
+use Rattle.std.specs.Prelude.{is_some, nat_le, replicate, Ok, Err, Option, None, Some, codes}
 use Rattle.std.specs.Str.{bytes_eq}
 use Rattle.std.proofs.lemmas.List.{get_or_append_left, length-append, length-replicate}
 use Rattle.std.proofs.lemmas.List.Elements.{All-cons, All-nil, All-push}
@@ -10,7 +10,7 @@ use Rattle.cpt_pddl.specs.declared.typed.Typed.{Typed}
 use Rattle.cpt_pddl.specs.Items.{Items, end, word, group}
 use Rattle.cpt_pddl.specs.Names.{place_in}
 use Rattle.cpt_pddl.specs.Typed as typed
-use Rattle.cpt_pddl.specs.Words.{head_of, is_name}
+use Rattle.cpt_pddl.specs.Words.{is_name}
 use Rattle.cpt_declared.specs.declared.kinds.Kinds.{Kinds}
 use Rattle.cpt_declared.specs.declared.signatures.Last.{Last}
 use Rattle.cpt_declared.specs.declared.signatures.Last.TheVariants.{Start, Behind, Dash}
@@ -18,9 +18,9 @@ use Rattle.cpt_declared.specs.declared.signatures.Signatures.{Signatures}
 use Rattle.cpt_declared.specs.declared.signatures.Sort as signature_sort
 use Rattle.cpt_declared.specs.declared.signatures.Sort.TheVariants.{Predicates, Functions}
 use Rattle.cpt_declared.specs.Kinds as kinds
-use Rattle.cpt_declared.specs.Signatures.{after_word, function_at, functions_end, functions_in, functions_rest, is_refused, is_reserved, named_signature, new_name, predicates_in, signature, with_signature}
+use Rattle.cpt_declared.specs.Signatures.{after_word, function_at, functions_end, functions_in, functions_rest, is_refused, named_signature, new_name, predicates_in, signature, with_signature}
 use Rattle.cpt_domain_spelling.specs.Names.{named}
-use Rattle.cpt_domain_spelling.specs.Spellable.{AreNames, AreUnreserved}
+use Rattle.cpt_domain_spelling.specs.Spellable.{AreNames}
 use Rattle.cpt_domain_spelling.proofs.HoldsLemmas.{Holds, holds_after, holds_bind, holds_if}
 use Rattle.cpt_domain_spelling.proofs.KindLemmas.{below_length}
 

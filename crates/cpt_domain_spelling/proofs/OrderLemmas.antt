@@ -1,9 +1,9 @@
-use Rattle.std.proofs.Common.{◌≡◌, ◌≢◌, ℕ, zero, suc, ◌+◌, ◌<◌, ◌≤◌, max, ◌++◌, ◌∷◌, [], Bool, true, false, List, length, drop, All, inl, inr, refl, ap, ◌∙◌, sym, subst, arith}
+use Rattle.std.proofs.Common.{◌≡◌, ℕ, zero, suc, ◌+◌, ◌<◌, ◌≤◌, max, ◌∷◌, [], true, List, length, drop, All, inl, inr, ap, ◌∙◌, subst, arith}
 use Rattle.std.specs.Prelude.{slice_index}
 use Rattle.std.proofs.lemmas.Bool.{cases_eq, eq-eqb, ne_eqb}
 use Rattle.std.proofs.lemmas.List.Elements.{All-cons, All-nil}
 use Rattle.cpt_declared.specs.Kinds.{has}
-use Rattle.cpt_domain_spelling.specs.Siblings.{AreByFirstPlace, AreSiblings, IsArranged, NoneTwice, Siblings, entries, mentions, one_by_one}
+use Rattle.cpt_domain_spelling.specs.Siblings.{AreByFirstPlace, AreSiblings, IsArranged, NoneTwice, entries, mentions, one_by_one}
 use Rattle.cpt_domain_spelling.proofs.ItemLemmas.{unless, when}
 
 entry_at : (kind : ℕ) (parents : List ℕ) (i : ℕ) → i < length (entries (one_by_one kind parents)) → slice_index (entries (one_by_one kind parents)) i ≡ kind + i

@@ -1,4 +1,4 @@
-use Rattle.std.proofs.Common.{◌≡◌, ℕ, ◌∷◌, [], Bool, true, false, List, length, All, refl, ap, ◌∙◌, sym}
+use Rattle.std.proofs.Common.{◌≡◌, ℕ, ◌∷◌, [], Bool, true, false, List, All}
 use Rattle.std.specs.Prelude.{◌&&◌, is_some, nat_le, Result, Ok, Err, Option, None, Some, codes}
 use Rattle.std.proofs.lemmas.List.Elements.{All-cons, All-head, All-nil, All-tail}
 use Rattle.cpt_pddl.specs.declared.fault.Feature.TheVariants as features

@@ -4,8 +4,6 @@ use Rattle.std.proofs.lemmas.List.{append-nil, append_assoc}
 use Rattle.std.proofs.lemmas.List.Elements.{All-head, All-tail}
 use Rattle.cpt_sexp.specs.Printing as nest
 use Rattle.cpt_pddl.specs.declared.typed.Sort.TheVariants.{Variables}
-use Rattle.cpt_pddl.specs.declared.words.Head.{Head}
-use Rattle.cpt_pddl.specs.declared.words.Head.TheVariants.{And, Not, Equal, At, Over, Untaken, Numeric, Other}
 use Rattle.cpt_pddl.specs.Items.{Items}
 use Rattle.cpt_pddl.specs.Names.{place_in}
 use Rattle.cpt_pddl.specs.Typed.{no_names, typed_list}
@@ -19,7 +17,7 @@ use Rattle.cpt_declared.specs.Signatures.{function_at, functions_end, functions_
 use Rattle.cpt_domain.specs.SoundKinds.{AreSignatures, AreVariables}
 use Rattle.cpt_domain.specs.SoundNames.{AreDifferent}
 use Rattle.cpt_domain_spelling.specs.Saying.{says}
-use Rattle.cpt_domain_spelling.specs.Spellable.{AreDistinct, AreUnreserved, AreNames, is_free}
+use Rattle.cpt_domain_spelling.specs.Spellable.{AreDistinct, AreUnreserved, AreNames}
 use Rattle.cpt_domain_spelling.specs.Spelling.{signatures_nest, variables_from, variables_nest}
 use Rattle.cpt_domain_spelling.proofs.ItemLemmas.{bound, end_there, group_there, unless, when, word_there}
 use Rattle.cpt_domain_spelling.proofs.NameLemmas.{place_new}

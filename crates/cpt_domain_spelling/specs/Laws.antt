@@ -1,4 +1,4 @@
-use Rattle.std.specs.Prelude.{◌≡◌, ℕ, Bool, ◌<◌, ◌≤◌, true, List, [], length, slice_index_or, All, Ok, None, codes}
+use Rattle.std.specs.Prelude.{◌≡◌, ℕ, Bool, ◌≤◌, true, List, [], length, slice_index_or, All, Ok, None, codes}
 use Rattle.cpt_sexp.specs.Grammar.{ForestShape}
 use Rattle.cpt_sexp.specs.Printing.{nothing, name, list, nest_of}
 use Rattle.cpt_pddl.specs.declared.typed.Sort.{Sort}
@@ -21,6 +21,7 @@ use Rattle.cpt_schema.specs.Schemas.{lits_of, no_conds, no_effs, schema_in}
 use Rattle.cpt_schema.specs.Terms.{applied}
 use Rattle.cpt_domain.specs.declared.domain.Domain.{Domain}
 use Rattle.cpt_domain.specs.Reading.{domain_of}
+use Rattle.cpt_domain.specs.Sound.{IsSound}
 use Rattle.cpt_domain.specs.SoundKinds.{AreKinds, AreSignatures, AreTyped}
 use Rattle.cpt_domain.specs.SoundNames.{AreDifferent}
 use Rattle.cpt_domain.specs.SoundSchemas.{IsApplied, IsLasting}
@@ -102,3 +103,11 @@ ReadActionsAreTyped =
 -- each domain that is read is well formed
 abbrev pub ReadDomainsAreWellFormed : Type 0
 ReadDomainsAreWellFormed = (d : Domain) (forest : ForestShape) → domain_of forest ≡ Ok d → IsWellFormed d
+
+-- the types that are read stand in some groups of siblings, and are numbered by their first places
+abbrev pub ReadTypesAreArranged : Type 0
+ReadTypesAreArranged = (section : ℕ) (items : Items) (kinds : Kinds) → kinds_in section items ≡ Ok kinds → (groups : List Siblings) × IsArranged kinds.parents groups
+
+-- each sound domain that is read has a spelling
+abbrev pub ReadDomainsAreSpellable : Type 0
+ReadDomainsAreSpellable = (d : Domain) (forest : ForestShape) → IsSound d → domain_of forest ≡ Ok d → (groups : List Siblings) × IsSpellable d groups

@@ -1,5 +1,6 @@
 pub mod Laws
 pub mod Names
+pub mod Sample
 pub mod Saying
 pub mod Siblings
 pub mod Spellable

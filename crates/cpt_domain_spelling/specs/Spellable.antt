@@ -1,4 +1,4 @@
-use Rattle.std.specs.Prelude.{◌≡◌, ℕ, ◌<◌, Bool, true, false, map, List, [], length, All, slice_index, slice_index_or, codes}
+use Rattle.std.specs.Prelude.{◌≡◌, ℕ, Bool, true, false, map, List, [], length, All, slice_index, slice_index_or, codes}
 use Rattle.std.specs.List.{AllZip}
 use Rattle.cpt_pddl.specs.declared.words.Head.{Head}
 use Rattle.cpt_pddl.specs.declared.words.Head.TheVariants.{And, Not, Equal, At, Over, Untaken, Numeric, Other}
@@ -6,7 +6,6 @@ use Rattle.cpt_pddl.specs.Kinds.{is_below}
 use Rattle.cpt_pddl.specs.Words.{head_of, is_name}
 use Rattle.cpt_declared.specs.Signatures.{is_reserved}
 use Rattle.cpt_declared.specs.declared.declared.Declared.{Declared}
-use Rattle.cpt_declared.specs.declared.kinds.Kinds.{Kinds}
 use Rattle.cpt_schema.specs.declared.durations.Lasting.{Lasting}
 use Rattle.cpt_schema.specs.declared.durations.Lasting.TheVariants.{Fixed, Value}
 use Rattle.cpt_schema.specs.declared.schemas.Schema.{Schema}

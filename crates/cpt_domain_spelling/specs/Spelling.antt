@@ -1,4 +1,4 @@
-use Rattle.std.specs.Prelude.{ℕ, ◌+◌, Bool, true, false, map, drop, List, [], ◌∷◌, slice_index_or, codes}
+use Rattle.std.specs.Prelude.{ℕ, ◌+◌, Bool, true, false, map, List, [], ◌∷◌, codes}
 use Rattle.std.specs.Fmt.{decimal}
 use Rattle.cpt_sexp.specs.Printing.{Nest, nothing, name, list}
 use Rattle.cpt_pddl.specs.declared.typed.Typed.{Typed}

@@ -1,6 +1,7 @@
 //! The laws.
 
-ghost use Rattle.cpt_domain_spelling.specs.Laws.{ActionsReadBack, ConditionsReadBack, DomainsReadBack, DurationsReadBack, EffectsReadBack, FunctionsReadBack, PredicatesReadBack, ReadActionsAreTyped, ReadDomainsAreWellFormed, TermsReadBack, TypedListsReadBack, TypesReadBack};
+ghost use Rattle.cpt_domain_spelling.specs.Laws.{ActionsReadBack, ConditionsReadBack, DomainsReadBack, DurationsReadBack, EffectsReadBack, FunctionsReadBack, PredicatesReadBack, ReadActionsAreTyped, ReadDomainsAreSpellable, ReadDomainsAreWellFormed, ReadTypesAreArranged, TermsReadBack, TypedListsReadBack, TypesReadBack};
+ghost use Rattle.cpt_domain_spelling.specs.Sample.{LampsAreSpelled};
 ghost use Rattle.cpt_domain_spelling.specs.Siblings.{LesserParentsStand};
 ghost use Rattle.cpt_domain_spelling.specs.Texts.{TextsReadBack};
 
@@ -77,4 +78,19 @@ pub fn read_actions_are_typed()
 /// words; `object` is its first type; and its actions are typed.
 pub fn read_domains_are_well_formed()
     ensures { ReadDomainsAreWellFormed }
+{}
+
+/// The types that are read stand in some groups of siblings, and are numbered by their first places.
+pub fn read_types_are_arranged()
+    ensures { ReadTypesAreArranged }
+{}
+
+/// Each sound domain that is read has a spelling: so the domains with a spelling are those that are read of some text.
+pub fn read_domains_are_spellable()
+    ensures { ReadDomainsAreSpellable }
+{}
+
+/// A domain of lamps is spelled as its text says.
+pub fn lamps_are_spelled()
+    ensures { LampsAreSpelled }
 {}
