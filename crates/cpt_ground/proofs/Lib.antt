@@ -10,3 +10,4 @@ pub mod Plans
 pub mod ReadingFits
 pub mod Timelines
 pub mod Unique
+pub mod ReadingLemmas

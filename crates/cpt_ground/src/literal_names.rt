@@ -1,49 +1,18 @@
 //! Names of literals.
 
-ghost use Rattle.std.specs.Prelude.{◌≡◌, ◌++◌, ◌∷◌, ◌<◌, All, IfOk, OnOk, flat_map, length, map};
-ghost use Rattle.cpt_facts.specs.Fitting.{AreObjects, FactFits, objects_of, predicate_at};
+ghost use Rattle.std.specs.Prelude.{◌≡◌, ◌++◌, ◌<◌, All, IfOk, length, map};
+ghost use Rattle.cpt_facts.specs.Fitting.{FactFits, predicate_at};
 ghost use Rattle.cpt_ground.specs.Atoms.{fact_of, facts_of};
 ghost use Rattle.cpt_ground.specs.Compiled.{literal_name};
-ghost use Rattle.cpt_instance.specs.Instances.{names_of, object_at};
 ghost use Rattle.cpt_ground.specs.Literals.{literals_of, name_with};
 
 use crate::atoms::Atom;
 use crate::literals::Literals;
+use crate::object_names::push_names;
 use cpt_domain::Domain;
 use cpt_facts::Problem;
 use cpt_task::{List, Memory, Name};
 use std::alloc::Global;
-
-fn object_name<'a>(domain: &'a Domain, problem: &'a Problem, object: u32) -> &'a [u8]
-    requires { object < length (objects_of domain.now problem.now) }
-    ensures { result.now ≡ (object_at domain.now problem.now object).name }
-{
-    let constants = domain.constants.as_slice();
-    let place = object as usize;
-    if place < constants.len() {
-        return constants[place].name.as_slice();
-    }
-    problem.objects.as_slice()[place - constants.len()]
-        .name
-        .as_slice()
-}
-
-/// Writes the names of the objects, with a blank before each.
-fn push_names(
-    domain: &Domain,
-    problem: &Problem,
-    objects: &[u32],
-    text: &mut Vec<u8>,
-) -> Result<(), Memory>
-    requires { AreObjects domain.now problem.now objects.now }
-    ensures { OnOk result (text.new.items ≡ text.old.items ++ flat_map (λ word. 32 ∷ word) (names_of domain.now problem.now objects.now)) }
-{
-    for object in objects {
-        text.push(b' ')?;
-        text.extend_from_slice(object_name(domain, problem, *object))?;
-    }
-    Ok(())
-}
 
 fn predicate_name(domain: &Domain, pred: u32) -> &[u8]
     requires { pred < length domain.now.predicates }

@@ -1,5 +1,11 @@
 pub mod Answering
+pub mod ChoiceLemmas
+pub mod CountLemmas
+pub mod InstanceLemmas
 pub mod KindLemmas
+pub mod ListingLemmas
+pub mod MapLemmas
+pub mod MemberLemmas
 pub mod Objects
 pub mod Reading
 pub mod Steps

@@ -14,7 +14,6 @@ use Rattle.cpt_domain.specs.declared.domain.ObjectDecl.{ObjectDecl}
 use Rattle.cpt_facts.specs.declared.problem.Fact.{Fact}
 use Rattle.cpt_facts.specs.declared.problem.Problem.{Problem}
 use Rattle.cpt_facts.specs.Fitting.{objects_of}
-
 -- a schema's number, and an object for each of its parameters
 pub use Rattle.cpt_instance.specs.declared.instances.Instance.{Instance}
 

@@ -1,3 +1,6 @@
+pub mod Choices
+pub mod Durations
 pub mod Instances
+pub mod Listing
 pub mod Named
 pub mod Values
