@@ -1,6 +1,13 @@
+pub mod AtomLemmas
+pub mod CompileLemmas
 pub mod Determined
 pub mod Facts
+pub mod ListLemmas
+pub mod LiteralLemmas
 pub mod Numbers
+pub mod Orders
 pub mod Plans
+pub mod ReadingFits
 pub mod Timelines
 pub mod Unique
+pub mod ReadingLemmas

@@ -4,7 +4,6 @@ use Rattle.std.specs.Cmp.Lexicographic.{pointwise}
 use Rattle.cpt_facts.specs.declared.problem.Fact.{Fact}
 use Rattle.cpt_task.specs.declared.plan.Occ.{Occ}
 use Rattle.cpt_task.specs.Timeline.{occurrence_at}
-
 -- actions that need atoms present and atoms absent, and a task of them
 pub use Rattle.cpt_ground.specs.declared.signed.SignedAction.{SignedAction}
 pub use Rattle.cpt_ground.specs.declared.signed.Signed.{Signed}

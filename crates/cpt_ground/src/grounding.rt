@@ -4,6 +4,8 @@ ghost use Rattle.cpt_domain.specs.Sound.{IsSound};
 ghost use Rattle.cpt_facts.specs.Fitting.{Fits};
 ghost use Rattle.cpt_ground.specs.Grounding.{Grounds};
 
+use crate::compile::compile;
+use crate::reader::reading;
 use cpt_domain::Domain;
 use cpt_facts::Problem;
 use cpt_instance::GroundError;
@@ -17,5 +19,6 @@ pub fn ground(alloc: Global, domain: &Domain, problem: &Problem) -> Result<Task,
     requires fits { Fits domain.now problem.now }
     ensures exact { Grounds domain.now problem.now result }
 {
-    Err(GroundError::Memory)
+    let signed = reading(alloc, domain, problem)?;
+    Ok(compile(alloc, domain, problem, &signed)?)
 }

@@ -219,14 +219,19 @@ sums_are d p (s ∷ schemas) =
 pub total_is : (d : Domain) (p : Problem) → type_correct_lists d p ≡ schemas_total (parents_of d) (object_kinds d p) d.schemas
 total_is d p = sum-map (λ (s : Schema). list_count d p s.kinds) d.schemas ∙ sums_are d p d.schemas
 
+-- the type-correct lists are as many as the products over the schemas say
+pub total_here : (d : Domain) (p : Problem) (types : List TypeDecl) (kinds : List ℕ) (schemas : List Schema) → types ≡ d.types → kinds ≡ object_kinds d p → schemas ≡ d.schemas
+    → schemas_total (map (λ (t : TypeDecl). t.parent) types) kinds schemas ≡ type_correct_lists d p
+total_here d p types kinds schemas et ek es =
+    ap (λ (ts : List TypeDecl). schemas_total (map (λ (t : TypeDecl). t.parent) ts) kinds schemas) et
+    ∙ ap (λ ks. schemas_total (parents_of d) ks schemas) ek
+    ∙ ap (λ (ss : List Schema). schemas_total (parents_of d) (object_kinds d p) ss) es
+    ∙ sym (total_is d p)
+
 -- the type-correct lists, as they are counted
 pub counted : (d : Domain) (p : Problem) (types : List TypeDecl) (kinds : List ℕ) (schemas : List Schema) (n : ℕ) → types ≡ d.types → kinds ≡ object_kinds d p → schemas ≡ d.schemas
     → n ≡ min (schemas_total (map (λ (t : TypeDecl). t.parent) types) kinds schemas) 1000001 → n ≡ min (type_correct_lists d p) 1000001
-counted d p types kinds schemas n et ek es e =
-    e ∙ ap (λ (ts : List TypeDecl). min (schemas_total (map (λ (t : TypeDecl). t.parent) ts) kinds schemas) 1000001) et
-    ∙ ap (λ ks. min (schemas_total (parents_of d) ks schemas) 1000001) ek
-    ∙ ap (λ (ss : List Schema). min (schemas_total (parents_of d) (object_kinds d p) ss) 1000001) es
-    ∙ ap (λ k. min k 1000001) (sym (total_is d p))
+counted d p types kinds schemas n et ek es e = e ∙ ap (λ k. min k 1000001) (total_here d p types kinds schemas et ek es)
 
 -- the ways to choose, as they are counted
 pub ways_counted : (parents kinds wanted below : List ℕ) (choices : List (List ℕ)) (n : ℕ) → wanted ≡ below → choices ≡ choices_of parents kinds below

@@ -1,6 +1,6 @@
 //! All instances of a domain and a problem.
 
-ghost use Rattle.std.specs.Prelude.{◌≡◌, ◌≤◌, ◌++◌, ◌∷◌, [], IfOk, OnOk, MatchBool, length, map};
+ghost use Rattle.std.specs.Prelude.{◌≡◌, ◌≤◌, ◌++◌, ◌∷◌, [], IfOk, OnOk, MatchBool, length, map, ◌+◌};
 ghost use Rattle.cpt_domain.specs.declared.domain.TypeDecl.{TypeDecl};
 ghost use Rattle.cpt_facts.specs.Fitting.{Fits};
 ghost use Rattle.cpt_instance.specs.Choices.{AllRise, choice_count, list_total, schemas_total};
@@ -35,7 +35,8 @@ fn push_where_kept(
     instance: Instance,
     found: &mut Vec<Instance>,
 ) -> Result<(), Memory>
-    ensures { OnOk result (AddsWhere (IsKept values.now schema.now instance.args) instance found.old.items found.new.items) }
+    ensures adds { OnOk result (AddsWhere (IsKept values.now schema.now instance.args) instance found.old.items found.new.items) }
+    ensures few { OnOk result (length found.new.items ≤ length found.old.items + 1) }
 {
     if is_kept(alloc, schema, values, instance.args.as_slice())? {
         found.push(instance)?;
@@ -54,7 +55,8 @@ fn push_chosen(
 ) -> Result<(), Memory>
     requires total { count ≡ choice_count choices.now }
     requires ordered { AllRise choices.now }
-    ensures { OnOk result (Adds (IsChosen values.now schema.now number choices.now count) found.old.items found.new.items) }
+    ensures adds { OnOk result (Adds (IsChosen values.now schema.now number choices.now count) found.old.items found.new.items) }
+    ensures few { OnOk result (length found.new.items ≤ length found.old.items + count) }
 {
     for place in 0..count {
         let args = choice_at(alloc, choices, count, place)?;
@@ -78,7 +80,8 @@ fn push_of_schema(
 ) -> Result<(), Memory>
     requires objects { length kinds.now ≤ 4096 }
     requires few { list_total (map (λ (t : TypeDecl). t.parent) types.now) kinds.now schema.now.kinds ≤ 1000000 }
-    ensures { OnOk result (Adds (IsOfSchema values.now schema.now number (map (λ (t : TypeDecl). t.parent) types.now) kinds.now) found.old.items found.new.items) }
+    ensures adds { OnOk result (Adds (IsOfSchema values.now schema.now number (map (λ (t : TypeDecl). t.parent) types.now) kinds.now) found.old.items found.new.items) }
+    ensures few { OnOk result (length found.new.items ≤ length found.old.items + list_total (map (λ (t : TypeDecl). t.parent) types.now) kinds.now schema.now.kinds) }
 {
     let wanted = schema.kinds.as_slice();
     let choices = choices_of(alloc, types, kinds, wanted)?;
@@ -103,7 +106,8 @@ fn of_schemas(
 ) -> Result<Vec<Instance>, Memory>
     requires objects { length kinds.now ≤ 4096 }
     requires few { schemas_total (map (λ (t : TypeDecl). t.parent) types.now) kinds.now schemas.now ≤ 1000000 }
-    ensures { IfOk result (λ found. AreAll (IsOfFirst values.now schemas.now (length schemas.now) (map (λ (t : TypeDecl). t.parent) types.now) kinds.now) found.items) }
+    ensures all { IfOk result (λ found. AreAll (IsOfFirst values.now schemas.now (length schemas.now) (map (λ (t : TypeDecl). t.parent) types.now) kinds.now) found.items) }
+    ensures few { IfOk result (λ found. length found.items ≤ schemas_total (map (λ (t : TypeDecl). t.parent) types.now) kinds.now schemas.now) }
 {
     let mut found = Vec::new(alloc);
     for (number, schema) in schemas.iter().enumerate() {
@@ -122,7 +126,8 @@ pub fn instances_of(
 ) -> Result<List<Instance>, GroundError>
     requires fits { Fits domain.now problem.now }
     requires mapped { HasValues problem.now.values values.now }
-    ensures { ListsInstances domain.now problem.now result }
+    ensures exact { ListsInstances domain.now problem.now result }
+    ensures few { IfOk result (λ instances. length instances ≤ 1000000) }
 {
     let types = domain.types.as_slice();
     let schemas = domain.schemas.as_slice();

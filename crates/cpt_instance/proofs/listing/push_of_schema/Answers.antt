@@ -1,7 +1,7 @@
-use Rattle.std.proofs.Common.{◌≡◌, ◌∙◌, List, ℕ, ap, map}
+use Rattle.std.proofs.Common.{◌≡◌, ◌∙◌, ◌≤◌, ◌+◌, List, ℕ, ap, map, length, arith}
 use Rattle.std.specs.Prelude.{Result, Ok, Err, OnOk}
 use Rattle.cpt_domain.specs.declared.domain.TypeDecl.{TypeDecl}
-use Rattle.cpt_instance.specs.Choices.{choices_of}
+use Rattle.cpt_instance.specs.Choices.{choices_of, list_total}
 use Rattle.cpt_instance.specs.Listing.{Adds, IsChosen, IsOfSchema}
 use Rattle.cpt_instance.proofs.InstanceLemmas.{all_places, ways_counted, ways_rise}
 use Rattle.cpt_instance.proofs.listing.push_of_schema.Goals as goal
@@ -23,8 +23,8 @@ push_chosen-requires-clause-ordered c =
     let parents : List ℕ = map (λ (t : TypeDecl). t.parent) c.args.types.now in
     ways_rise parents c.args.kinds.now c.as_slice-wanted.result.now c.as_slice.result.now (c.as_slice.ensures.value ∙ c.in_ok-choices.ensures)
 
-pub returns : goal.returns
-returns c =
+pub returns-clause-adds : goal.returns-clause-adds
+returns-clause-adds c =
     let parents : List ℕ = map (λ (t : TypeDecl). t.parent) c.args.types.now in
     let chosen : c.as_slice.result.now ≡ choices_of parents c.args.kinds.now c.args.schema.now.kinds =
     c.as_slice.ensures.value ∙ c.in_ok-choices.ensures ∙ ap (choices_of parents c.args.kinds.now) c.as_slice-wanted.ensures in
@@ -35,4 +35,15 @@ returns c =
     c.args.found.now.items c.push_chosen.new.found.items chosen
     (ways_counted parents c.args.kinds.now c.as_slice-wanted.result.now c.args.schema.now.kinds c.as_slice.result.now c.list_count-count.result
     c.as_slice-wanted.ensures chosen c.list_count-count.ensures c.requires.few) h)
-    c.push_chosen.ensures
+    c.push_chosen.ensures.adds
+
+pub returns-clause-few : goal.returns-clause-few
+returns-clause-few c =
+    let parents : List ℕ = map (λ (t : TypeDecl). t.parent) c.args.types.now in
+    let same : list_total parents c.args.kinds.now c.as_slice-wanted.result.now ≡ list_total parents c.args.kinds.now c.args.schema.now.kinds =
+    ap (list_total parents c.args.kinds.now) c.as_slice-wanted.ensures in
+    let few : c.list_count-count.result ≤ list_total parents c.args.kinds.now c.args.schema.now.kinds = omega (arith, c.list_count-count.ensures, same) in
+    on_ok_map c.push_chosen.result
+    (length c.push_chosen.new.found.items ≤ length c.args.found.now.items + c.list_count-count.result)
+    (length c.push_chosen.new.found.items ≤ length c.args.found.now.items + list_total parents c.args.kinds.now c.args.schema.now.kinds)
+    (λ h. omega arith) c.push_chosen.ensures.few
