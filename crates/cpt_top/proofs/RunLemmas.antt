@@ -6,7 +6,10 @@ use Rattle.cpt_files.specs.declared.ending.Ending.TheVariants.{Usage, Passed, Do
 use Rattle.cpt_top.specs.declared.verdicts.Reply.{Reply}
 use Rattle.cpt_files.specs.Ending.{Answer, answer_of, ending_answer}
 use Rattle.cpt_files.specs.Files.{Gives}
+use Rattle.cpt_task_text.specs.Plain.{IsPlain}
+use Rattle.cpt_task_text.specs.Reading.{task_of}
 use Rattle.cpt_task_text.specs.Spelling.{spelling}
+use Rattle.cpt_task_text.proofs.Whole.{task_again}
 use Rattle.cpt_reach.specs.declared.pruning.Pruned.{Pruned}
 use Rattle.cpt_reach.specs.Plans.{older_plan}
 use Rattle.cpt_top.specs.Commands.{Answers, Asked, Asks, AsksJudging, AsksListing, AsksValidation, ComesTo, HoldJudgedPlan, HoldKept, HoldValidPlan, IsUsage, IsValidWithAbsence, MayWrite, Reaches, judging, listing, validation}
@@ -15,7 +18,7 @@ use Rattle.cpt_files.specs.Lines.{read_line, memory_line, valid_line}
 use Rattle.cpt_top.specs.Printing.{Output, Writes, WritesWhole, WritesFront, WritesAnswer, memory_answer, ended_answer, told}
 use Rattle.cpt_top.specs.Verdicts.{reply_answer}
 use Rattle.cpt_top.proofs.Once.{asked_reaches, comes_once}
-use Rattle.cpt_top.proofs.Zero.{judged_is_zero, listed_is_zero, valid_is_zero, with_absence, zero_is_judged, zero_is_listed, zero_is_valid}
+use Rattle.cpt_top.proofs.Zero.{judged_is_zero, listed_is_zero, plain_kept, valid_is_zero, with_absence, zero_is_judged, zero_is_listed, zero_is_valid}
 
 -- what is known after a run
 pub record Ran (o : Option Files) (steady : Bool) (words : List (List ℕ)) (r : Result Reply Ending) (before now : ℕ) (old new : Output) (status : ℕ) : Type 0 where
@@ -392,7 +395,7 @@ judges x = if_some_weaker x.files (Complete x) (JudgesIt x) (judges_in x) (compl
 -- what is listed is the kept task
 abbrev pub Listed : Run → Files → Type 0
 Listed x files = (domain_name problem_name : List ℕ) → AsksListing x.words domain_name problem_name → x.status ≡ 0
-    → (kept : Pruned) × HoldKept files domain_name problem_name kept × (x.new.written ≡ append_known x.old.written (spelling kept.task))
+    → (kept : Pruned) × HoldKept files domain_name problem_name kept × IsPlain kept.task × (task_of (spelling kept.task) ≡ Ok kept.task) × (x.new.written ≡ append_known x.old.written (spelling kept.task))
 
 pub listed : (x : Run) → IfSome x.files (Listed x)
 listed x = if_some_weaker x.files (Only x) (Listed x) (listed_in x) (only x)
@@ -401,7 +404,8 @@ listed x = if_some_weaker x.files (Only x) (Listed x) (listed_in x) (only x)
     listed_in x files told_only d p asks zero =
         let at = zero_of x files (listing d p) asks told_only zero in
         let kept = zero_is_listed files d p at.0 at.1 at.2 in
-        (kept.0, kept.1, at.3 ∙ ap (append_known x.old.written) kept.2)
+        let plain : IsPlain kept.0.task = plain_kept files d p kept.0 kept.1 in
+        (kept.0, kept.1, plain, task_again kept.0.task plain, at.3 ∙ ap (append_known x.old.written) kept.2)
 
 -- the kept task is listed, unless a file cannot be read, a write fails or memory is refused
 abbrev pub Lists : Run → Files → Type 0

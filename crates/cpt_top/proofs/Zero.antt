@@ -32,6 +32,10 @@ use Rattle.cpt_files.specs.Names.{kept_finds}
 use Rattle.cpt_files.proofs.Accepting.{accepted_is, ended_ok, is_accepted}
 use Rattle.cpt_files.proofs.Naming.{knows_kept}
 use Rattle.cpt_files.proofs.Once.{problem_fits}
+use Rattle.cpt_domain.specs.Sound.{IsSound}
+use Rattle.cpt_task_text.specs.Plain.{IsPlain}
+use Rattle.cpt_files.specs.Texts.{DomainText}
+use Rattle.cpt_plain.proofs.Tidy.{kept_tasks_are_plain}
 use Rattle.cpt_top.specs.Commands.{HoldJudgedPlan, HoldKept, HoldValidPlan, IsValidWithAbsence}
 use Rattle.cpt_top.specs.Verdicts.{AnswersVerdict, JudgesFiles, JudgesPlan, ListsTask, accepted_plan, verdict_answer}
 
@@ -168,3 +172,14 @@ zero_is_listed files dn pn r h zero =
 
 pub listed_is_zero : (files : Files) (dn pn : List ℕ) (kept : Pruned) → HoldKept files dn pn kept → ListsTask files dn pn (Ok (record { status = 0; text = spelling kept.task }))
 listed_is_zero files dn pn kept h = (Ok (accepted h.domain h.problem kept), accepted_is files dn pn h.domain h.problem h.task kept h.accepted, refl)
+
+-- a domain that is read is sound
+domain_sound : (x : Result (List ℕ) Ending) (d : Domain) → Then x DomainText (Ok d) → IsSound d
+domain_sound (Ok text) d h = h.1
+domain_sound (Err e) d h = absurd (cc)
+
+-- the kept task of files is plain
+pub plain_kept : (files : Files) (dn pn : List ℕ) (kept : Pruned) → HoldKept files dn pn kept → IsPlain kept.task
+plain_kept files dn pn kept h =
+    kept_tasks_are_plain h.domain h.problem h.task kept (domain_sound (text_under files dn) h.domain h.accepted.domain_file) (problem_fits files h.domain pn h.problem h.accepted.problem_file)
+    h.accepted.bounds h.accepted.grounds.1 h.accepted.prunes

@@ -5,6 +5,8 @@ ghost use Rattle.std.specs.Io.KnownBytes.{append_known};
 ghost use Rattle.cpt_io.specs.Meaning.{AppendsFront};
 ghost use Rattle.cpt_reach.specs.declared.pruning.Pruned.{Pruned};
 ghost use Rattle.cpt_reach.specs.Plans.{older_plan};
+ghost use Rattle.cpt_task_text.specs.Plain.{IsPlain};
+ghost use Rattle.cpt_task_text.specs.Reading.{task_of};
 ghost use Rattle.cpt_task_text.specs.Spelling.{spelling};
 ghost use Rattle.cpt_top.specs.Commands.{Answers, AsksJudging, AsksListing, AsksValidation, ComesTo, HoldJudgedPlan, HoldKept, HoldValidPlan, IsUsage, IsValidWithAbsence, MayWrite, Reaches, asked_of};
 ghost use Rattle.cpt_files.specs.Ending.{Answer};
@@ -92,9 +94,10 @@ pub fn run<L: Library, K: Sink>(alloc: Global, words: &[String], lib: &mut L, ou
         → HoldJudgedPlan files domain_name problem_name plan_name m → K.faults out.new ≡ K.faults out.old → (L.faults lib.new ≡ L.faults lib.old) ⊎ IsTrue (L.steady lib.old)
         → (result ≡ 9) ⊎ ((result ≡ 0) × (K.written out.new ≡ append_known (K.written out.old) (valid_line m)))) }
 
-    // `ground` answers 0 only where the files hold a domain and a problem, and then the spelling of their kept task was written.
+    // `ground` answers 0 only where the files hold a domain and a problem, and then the spelling of their kept task was written, which
+    // is plain, so that it is read back.
     ensures listed { IfSome (L.holds lib.old) (λ files. (domain_name problem_name : List ℕ) → AsksListing (map string_bytes words.now) domain_name problem_name → result ≡ 0
-        → (kept : Pruned) × HoldKept files domain_name problem_name kept × (K.written out.new ≡ append_known (K.written out.old) (spelling kept.task))) }
+        → (kept : Pruned) × HoldKept files domain_name problem_name kept × IsPlain kept.task × (task_of (spelling kept.task) ≡ Ok kept.task) × (K.written out.new ≡ append_known (K.written out.old) (spelling kept.task))) }
     // Where they do it answers 0, unless a read or a write fails or memory is refused.
     ensures lists { IfSome (L.holds lib.old) (λ files. (domain_name problem_name : List ℕ) (kept : Pruned) → AsksListing (map string_bytes words.now) domain_name problem_name
         → HoldKept files domain_name problem_name kept → K.faults out.new ≡ K.faults out.old → (L.faults lib.new ≡ L.faults lib.old) ⊎ IsTrue (L.steady lib.old)
