@@ -14,6 +14,7 @@ pub use forms::{Cert, CertLine, Claim, Run, Version};
 pub use laws::{enough_is_kept, one_reading};
 pub use lines::Lines;
 pub use reading::read_line;
+pub use rows::{are_alone, are_runs};
 
 #[cfg(test)]
 mod tests;
