@@ -21,3 +21,4 @@ pub use laws::{enough_is_kept, one_reading};
 pub use lines::Lines;
 pub use printing::{cert_len, print_cert};
 pub use reading::read_line;
+pub use rows::{are_alone, are_runs};

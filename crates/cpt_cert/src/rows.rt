@@ -65,7 +65,8 @@ fn runs_of(alloc: Global, words: &[&[u8]]) -> Result<Option<Vec<Run>>, Memory>
     Ok(Some(runs))
 }
 
-fn are_alone(runs: &[Run]) -> bool
+/// Each run is of one value.
+pub fn are_alone(runs: &[Run]) -> bool
     ensures { result ≡ are_alone runs.now }
 {
     for run in runs {
@@ -87,7 +88,7 @@ fn are_one(first: Span, second: Span) -> bool
 }
 
 /// Two neighbours have different values.
-fn are_runs(runs: &[Run]) -> bool
+pub fn are_runs(runs: &[Run]) -> bool
     ensures { result ≡ are_runs runs.now }
 {
     let mut rest = runs;

@@ -8,7 +8,8 @@ use Rattle.cpt_cert.specs.declared.forms.Version.TheVariants.{One, Two}
 use Rattle.cpt_cert.specs.declared.forms.Run.{Run}
 use Rattle.cpt_cert.specs.Text.{same_span, once, run_before, runs_of, row_runs}
 use Rattle.cpt_verdict.specs.Laws.{AreFilled}
-use Rattle.cpt_verdict.specs.Reading.{values_of, are_alone, are_apart, is_form, is_row}
+use Rattle.cpt_cert.specs.Reading.{are_alone, are_runs}
+use Rattle.cpt_verdict.specs.Reading.{values_of, is_form, is_row}
 
 pub same_span_true : (v w : Span) → same_span v w ≡ true → v ≡ w
 same_span_true (At m) (At n) e = ap At (eqb-true m n e)
@@ -38,14 +39,14 @@ values_row Two [] = refl
 values_row Two (x ∷ vs) = values_before x (runs_of vs) ∙ ap (λ ws. x ∷ ws) (values_row Two vs)
 
 -- a run more is apart from its neighbour
-apart_before : (v : Span) (runs : List Run) → are_apart runs ≡ true → are_apart (run_before v runs) ≡ true
+apart_before : (v : Span) (runs : List Run) → are_runs runs ≡ true → are_runs (run_before v runs) ≡ true
 apart_before v [] h = refl
 apart_before v (run ∷ runs) h = go (same_span v run.value) refl runs h
   where
-    go : (b : Bool) → same_span v run.value ≡ b → (rest : List Run) → are_apart (run ∷ rest) ≡ true → are_apart (if b then record { value = v; count = run.count + 1 } ∷ rest else once v ∷ run ∷ rest) ≡ true
+    go : (b : Bool) → same_span v run.value ≡ b → (rest : List Run) → are_runs (run ∷ rest) ≡ true → are_runs (if b then record { value = v; count = run.count + 1 } ∷ rest else once v ∷ run ∷ rest) ≡ true
     go true e [] k = refl
-    go true e (next ∷ rest) k = subst (λ w. (not (same_span w next.value) && are_apart (next ∷ rest)) ≡ true) (sym (same_span_true v run.value e)) k
-    go false e rest k = and_from (not (same_span v run.value)) (are_apart (run ∷ rest)) (ap not e) k
+    go true e (next ∷ rest) k = subst (λ w. (not (same_span w next.value) && are_runs (next ∷ rest)) ≡ true) (sym (same_span_true v run.value e)) k
+    go false e rest k = and_from (not (same_span v run.value)) (are_runs (run ∷ rest)) (ap not e) k
 
 pub form_row : (v : Version) (vs : List Span) → is_form v (row_runs v vs) ≡ true
 form_row One [] = refl
@@ -62,25 +63,25 @@ before_same : (v : Span) (n : ℕ) (runs : List Run) → run_before v (record { 
 before_same v n runs = ap (λ b. if b then record { value = v; count = n + 1 } ∷ runs else once v ∷ record { value = v; count = n } ∷ runs) (same_span_same v)
 
 -- the first value of a run before runs that it is apart from
-before_apart : (run : Run) (runs : List Run) → are_apart (run ∷ runs) ≡ true → run_before run.value runs ≡ once run.value ∷ runs
+before_apart : (run : Run) (runs : List Run) → are_runs (run ∷ runs) ≡ true → run_before run.value runs ≡ once run.value ∷ runs
 before_apart run [] h = refl
 before_apart run (next ∷ runs) h =
-    ap (λ b. if b then record { value = run.value; count = next.count + 1 } ∷ runs else once run.value ∷ next ∷ runs) (turned (same_span run.value next.value) (and_parts (not (same_span run.value next.value)) (are_apart (next ∷ runs)) h).0)
+    ap (λ b. if b then record { value = run.value; count = next.count + 1 } ∷ runs else once run.value ∷ next ∷ runs) (turned (same_span run.value next.value) (and_parts (not (same_span run.value next.value)) (are_runs (next ∷ runs)) h).0)
   where
     turned : (b : Bool) → not b ≡ true → b ≡ false
     turned true e = absurd (cc)
     turned false e = refl
 
-runs_of_more : (run : Run) (runs : List Run) → are_apart (run ∷ runs) ≡ true → (n : ℕ) (vs : List Span) → runs_of vs ≡ runs → runs_of (replicate (suc n) run.value ++ vs) ≡ record { value = run.value; count = suc n } ∷ runs
+runs_of_more : (run : Run) (runs : List Run) → are_runs (run ∷ runs) ≡ true → (n : ℕ) (vs : List Span) → runs_of vs ≡ runs → runs_of (replicate (suc n) run.value ++ vs) ≡ record { value = run.value; count = suc n } ∷ runs
 runs_of_more run runs h zero vs e = ap (run_before run.value) e ∙ before_apart run runs h
 runs_of_more run runs h (suc n) vs e =
     ap (run_before run.value) (runs_of_more run runs h n vs e) ∙ before_same run.value (suc n) runs ∙ ap (λ k. record { value = run.value; count = k } ∷ runs) (omega arith)
 
-apart_tail : (run : Run) (runs : List Run) → are_apart (run ∷ runs) ≡ true → are_apart runs ≡ true
+apart_tail : (run : Run) (runs : List Run) → are_runs (run ∷ runs) ≡ true → are_runs runs ≡ true
 apart_tail run [] h = refl
-apart_tail run (next ∷ runs) h = (and_parts (not (same_span run.value next.value)) (are_apart (next ∷ runs)) h).1
+apart_tail run (next ∷ runs) h = (and_parts (not (same_span run.value next.value)) (are_runs (next ∷ runs)) h).1
 
-runs_of_run : (run : Run) (runs : List Run) → 1 ≤ run.count → are_apart (run ∷ runs) ≡ true → runs_of (values_of runs) ≡ runs → runs_of (values_of (run ∷ runs)) ≡ run ∷ runs
+runs_of_run : (run : Run) (runs : List Run) → 1 ≤ run.count → are_runs (run ∷ runs) ≡ true → runs_of (values_of runs) ≡ runs → runs_of (values_of (run ∷ runs)) ≡ run ∷ runs
 runs_of_run run runs one h e = go run.count refl
   where
     go : (k : ℕ) → run.count ≡ k → runs_of (replicate run.count run.value ++ values_of runs) ≡ run ∷ runs

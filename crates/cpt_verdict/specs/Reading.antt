@@ -14,7 +14,8 @@ use Rattle.cpt_cert.specs.declared.forms.Claim.{Claim}
 use Rattle.cpt_cert.specs.declared.forms.Run.{Run}
 use Rattle.cpt_cert.specs.declared.forms.CertLine.{CertLine}
 use Rattle.cpt_cert.specs.declared.forms.CertLine.TheVariants as lines
-use Rattle.cpt_cert.specs.Text.{same_span, pair_row, dist_row}
+use Rattle.cpt_cert.specs.Reading.{are_alone, are_runs}
+use Rattle.cpt_cert.specs.Text.{pair_row, dist_row}
 use Rattle.cpt_verdict.specs.declared.faults.Why.{Why}
 use Rattle.cpt_verdict.specs.declared.faults.Why.TheVariants as whys
 use Rattle.cpt_verdict.specs.Accepting.{is_no_sooner, IsPlanOf}
@@ -82,21 +83,10 @@ ReadsPlan t m n ls o = Then (λ n ls x. x ≡ take_plan n ls) (JudgesPlan t m n)
 abbrev pub values_of : List Run → List Span
 values_of runs = flat_map (λ (run : Run). replicate run.count run.value) runs
 
--- each run is of one value
-abbrev pub are_alone : List Run → Bool
-are_alone [] = true
-are_alone (run ∷ runs) = (run.count == 1) && are_alone runs
-
--- no two neighbours have the same value
-abbrev pub are_apart : List Run → Bool
-are_apart [] = true
-are_apart (run ∷ []) = true
-are_apart (run ∷ next ∷ runs) = not (same_span run.value next.value) && are_apart (next ∷ runs)
-
 -- a row is written as its version asks, and has so many values
 abbrev pub is_form : Version → List Run → Bool
 is_form One runs = are_alone runs
-is_form Two runs = are_apart runs
+is_form Two runs = are_runs runs
 
 abbrev pub is_row : Version → ℕ → List Run → Bool
 is_row v k runs = is_form v runs && (length (values_of runs) == k)
