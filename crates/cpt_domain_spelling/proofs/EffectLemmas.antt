@@ -15,10 +15,10 @@ use Rattle.cpt_pddl.specs.Words.{head_of}
 use Rattle.cpt_declared.specs.declared.declared.Declared.{Declared}
 use Rattle.cpt_schema.specs.declared.effects.Effect.{Effect}
 use Rattle.cpt_schema.specs.declared.effects.Tag.{Tag}
-use Rattle.cpt_schema.specs.declared.effects.Tag.TheVariants.{End}
+use Rattle.cpt_schema.specs.declared.effects.Tag.TheVariants.{End, Plain}
 use Rattle.cpt_schema.specs.declared.schemas.Schema.{Schema}
 use Rattle.cpt_schema.specs.declared.terms.Lit.{Lit}
-use Rattle.cpt_schema.specs.Effects.{Effs, add_atom, delete_atom, delete_group, deletion, effect_by, effect_in, effects_in, tag_next, tagged_effect, timed_effect_by, timed_effect_in}
+use Rattle.cpt_schema.specs.Effects.{Effs, add_atom, added, delete_atom, delete_group, deleted, deletion, effect_by, effect_in, effects_in, tag_next, tagged_effect, timed_effect_by, timed_effect_in}
 use Rattle.cpt_schema.specs.Schemas.{lits_of, no_effs}
 use Rattle.cpt_domain_spelling.specs.Saying.{says}
 use Rattle.cpt_domain_spelling.specs.Spellable.{HasSpelling, IsFreeAtom, IsSoundOver, IsTyped, is_free}
@@ -60,77 +60,88 @@ added_by d params tag e atom at bytes rest all (Untaken which) f = cc
 added_by d params tag e atom at bytes rest all Numeric f = cc
 added_by d params tag e atom at bytes rest all Other f = refl
 
-module _ (d : Declared) (params : List ℕ) (tag : ℕ) (h : HasSpelling d) (few : length params ≤ 16) where
-  -- an atom that is added at the end
+-- effects with this tag are taken, where all that are deleted come first; whether a deleted atom is marked
+record Takes (tag : Tag) (mark : Bool) : Type 0 where
+  adds : (adds dels : List Effect) (lit : Lit) → added tag (effs adds dels) lit ≡ Ok (effs (adds ++ record { lit = lit; marked = false } ∷ []) dels)
+  dels : (dels : List Effect) (lit : Lit) → deleted tag (effs [] dels) lit ≡ Ok (effs [] (dels ++ record { lit = lit; marked = mark } ∷ []))
+
+takes_end : (at : ℕ) → Takes (End at) true
+takes_end at = record { adds = λ adds dels lit. refl; dels = λ dels lit. refl }
+
+takes_plain : Takes Plain false
+takes_plain = record { adds = λ adds dels lit. refl; dels = λ dels lit. refl }
+
+module _ (d : Declared) (params : List ℕ) (tag : Tag) (mark : Bool) (takes : Takes tag mark) (h : HasSpelling d) (few : length params ≤ 16) where
+  -- an atom that is added
   add_back : (adds dels : List Effect) (at : ℕ) (lit : Lit) (items : Items) → AtomOf d params lit → IsFreeAtom d lit → length adds < 64 → says items ≡ atom_nest d lit
-      → effect_in d (parameters_of params) (End tag) (effs adds dels) at items ≡ Ok (effs (adds ++ record { lit = lit; marked = false } ∷ []) dels)
+      → effect_in d (parameters_of params) tag (effs adds dels) at items ≡ Ok (effs (adds ++ record { lit = lit; marked = false } ∷ []) dels)
   unfolding add_atom
   add_back adds dels at lit items a free room said =
       let w = word_there items (named d.predicates.names lit.pred) _ said in
-      ap (effect_in d (parameters_of params) (End tag) (effs adds dels) at) w.is
-      ∙ added_by d (parameters_of params) (End tag) (effs adds dels) at w.at (named d.predicates.names lit.pred) w.more _ (head_of (named d.predicates.names lit.pred)) free
-      ∙ bound _ (atom_back d params (nat_le 64 (length adds)) at w.at lit w.more h few (lt-leb 64 (length adds) room) a w.said) refl
+      ap (effect_in d (parameters_of params) tag (effs adds dels) at) w.is
+      ∙ added_by d (parameters_of params) tag (effs adds dels) at w.at (named d.predicates.names lit.pred) w.more _ (head_of (named d.predicates.names lit.pred)) free
+      ∙ bound _ (atom_back d params (nat_le 64 (length adds)) at w.at lit w.more h few (lt-leb 64 (length adds) room) a w.said) (takes.adds adds dels lit)
 
-  -- an atom that is deleted at the end, before any that is added
+  -- an atom that is deleted, before any that is added
   delete_back : (dels : List Effect) (at : ℕ) (lit : Lit) (items : Items) → AtomOf d params lit → length dels < 64 → says items ≡ signed_nest false (atom_nest d lit)
-      → effect_in d (parameters_of params) (End tag) (effs [] dels) at items ≡ Ok (effs [] (dels ++ record { lit = lit; marked = true } ∷ []))
+      → effect_in d (parameters_of params) tag (effs [] dels) at items ≡ Ok (effs [] (dels ++ record { lit = lit; marked = mark } ∷ []))
   unfolding deletion delete_atom
   delete_back dels at lit items a room said =
       let w = word_there items (codes "not") _ said in
       let g = group_there w.more _ _ w.said in
       let p = word_there g.inside (named d.predicates.names lit.pred) _ g.within in
       let last = end_there g.more g.said in
-      ap (effect_in d (parameters_of params) (End tag) (effs [] dels) at) w.is
-      ∙ ap (effect_by d (parameters_of params) (End tag) (effs [] dels) at w.at (codes "not") w.more (effects_in d (parameters_of params) (End tag) (effs [] dels) w.more)) head_not
+      ap (effect_in d (parameters_of params) tag (effs [] dels) at) w.is
+      ∙ ap (effect_by d (parameters_of params) tag (effs [] dels) at w.at (codes "not") w.more (effects_in d (parameters_of params) tag (effs [] dels) w.more)) head_not
       ∙ bound _ (ap group_at g.is)
-      (bound _ (ap (delete_group d (parameters_of params) (End tag) (effs [] dels) g.at) p.is
-      ∙ bound _ (atom_back d params (nat_le 64 (length dels)) g.at p.at lit p.more h few (lt-leb 64 (length dels) room) a p.said) refl)
+      (bound _ (ap (delete_group d (parameters_of params) tag (effs [] dels) g.at) p.is
+      ∙ bound _ (atom_back d params (nat_le 64 (length dels)) g.at p.at lit p.more h few (lt-leb 64 (length dels) room) a p.said) (takes.dels dels lit))
       (bound _ (ap nothing last.is) refl))
 
   -- atoms that are added, to the end
   adds_back : (lits : List Lit) (all adds dels : List Effect) (items : Items) → All (AtomOf d params) lits → All (IsFreeAtom d) lits → all ≡ adds ++ marks false lits → length all ≤ 64
-      → says items ≡ atoms_then true d lits nest.nothing → effects_in d (parameters_of params) (End tag) (effs adds dels) items ≡ Ok (effs all dels)
+      → says items ≡ atoms_then true d lits nest.nothing → effects_in d (parameters_of params) tag (effs adds dels) items ≡ Ok (effs all dels)
   adds_back [] all adds dels items a free e room said =
       let last = end_there items said in
-      ap (effects_in d (parameters_of params) (End tag) (effs adds dels)) last.is ∙ ap (λ es. Ok (effs es dels)) (sym (append-nil adds) ∙ sym e)
+      ap (effects_in d (parameters_of params) tag (effs adds dels)) last.is ∙ ap (λ es. Ok (effs es dels)) (sym (append-nil adds) ∙ sym e)
   adds_back (lit ∷ lits) all adds dels items a free e room said =
       let g = group_there items _ _ said in
       let one : Effect = record { lit = lit; marked = false } in
       let total = ap length e in
       let long = length-append adds (one ∷ marks false lits) in
-      ap (effects_in d (parameters_of params) (End tag) (effs adds dels)) g.is
+      ap (effects_in d (parameters_of params) tag (effs adds dels)) g.is
       ∙ bound _ (add_back adds dels g.at lit g.inside (All-head (AtomOf d params) lit lits a) (All-head (IsFreeAtom d) lit lits free) (omega (arith, total, long, room)) g.within)
       (adds_back lits all (adds ++ one ∷ []) dels g.more (All-tail (AtomOf d params) lit lits a) (All-tail (IsFreeAtom d) lit lits free) (e ∙ sym (append_assoc adds (one ∷ []) (marks false lits))) room g.said)
 
   -- atoms that are deleted, and then the rest
-  deletes_back : (lits : List Lit) (all dels : List Effect) (items : Items) (rest : Nest) (r : Result Effs Fault) → All (AtomOf d params) lits → all ≡ dels ++ marks true lits → length all ≤ 64
-      → says items ≡ atoms_then false d lits rest → ((more : Items) → says more ≡ rest → effects_in d (parameters_of params) (End tag) (effs [] all) more ≡ r)
-      → effects_in d (parameters_of params) (End tag) (effs [] dels) items ≡ r
+  deletes_back : (lits : List Lit) (all dels : List Effect) (items : Items) (rest : Nest) (r : Result Effs Fault) → All (AtomOf d params) lits → all ≡ dels ++ marks mark lits → length all ≤ 64
+      → says items ≡ atoms_then false d lits rest → ((more : Items) → says more ≡ rest → effects_in d (parameters_of params) tag (effs [] all) more ≡ r)
+      → effects_in d (parameters_of params) tag (effs [] dels) items ≡ r
   deletes_back [] all dels items rest r a e room said go =
-      ap (λ es. effects_in d (parameters_of params) (End tag) (effs [] es) items) (sym (append-nil dels) ∙ sym e) ∙ go items said
+      ap (λ es. effects_in d (parameters_of params) tag (effs [] es) items) (sym (append-nil dels) ∙ sym e) ∙ go items said
   deletes_back (lit ∷ lits) all dels items rest r a e room said go =
       let g = group_there items _ _ said in
-      let one : Effect = record { lit = lit; marked = true } in
+      let one : Effect = record { lit = lit; marked = mark } in
       let total = ap length e in
-      let long = length-append dels (one ∷ marks true lits) in
-      ap (effects_in d (parameters_of params) (End tag) (effs [] dels)) g.is
+      let long = length-append dels (one ∷ marks mark lits) in
+      ap (effects_in d (parameters_of params) tag (effs [] dels)) g.is
       ∙ bound _ (delete_back dels g.at lit g.inside (All-head (AtomOf d params) lit lits a) (omega (arith, total, long, room)) g.within)
-      (deletes_back lits all (dels ++ one ∷ []) g.more rest r (All-tail (AtomOf d params) lit lits a) (e ∙ sym (append_assoc dels (one ∷ []) (marks true lits))) room g.said go)
+      (deletes_back lits all (dels ++ one ∷ []) g.more rest r (All-tail (AtomOf d params) lit lits a) (e ∙ sym (append_assoc dels (one ∷ []) (marks mark lits))) room g.said go)
 
 -- what is in the group of the effects is read as they are
-inside_back : (d : Declared) (s : Schema) (tag at : ℕ) (items : Items) → HasSpelling d → IsSoundOver d s → IsTyped d s → says items ≡ effects_nest d s
-    → effect_in d (parameters_of s.kinds) (End tag) no_effs at items ≡ Ok (effs (marks false s.add) (marks true s.dele))
-inside_back d s tag at items h sound typed said =
+inside_back : (d : Declared) (s : Schema) (tag : Tag) (mark : Bool) (at : ℕ) (items : Items) → Takes tag mark → HasSpelling d → IsSoundOver d s → IsTyped d s → says items ≡ effects_nest d s
+    → effect_in d (parameters_of s.kinds) tag no_effs at items ≡ Ok (effs (marks false s.add) (marks mark s.dele))
+inside_back d s tag mark at items takes h sound typed said =
     let a = word_there items (codes "and") _ said in
     let few = sound.kinds.few in
     let adds = length_marks false s.add in
-    let dels = length_marks true s.dele in
+    let dels = length_marks mark s.dele in
     let few_adds = sound.few_adds in
     let few_dels = sound.few_deletes in
-    ap (effect_in d (parameters_of s.kinds) (End tag) no_effs at) a.is
-    ∙ ap (effect_by d (parameters_of s.kinds) (End tag) no_effs at a.at (codes "and") a.more (effects_in d (parameters_of s.kinds) (End tag) no_effs a.more)) head_and
-    ∙ deletes_back d s.kinds tag h few s.dele (marks true s.dele) [] a.more _ _ (λ k x lt. record { sound = sound.dele k x lt; typed = typed.dele k x lt }) refl (omega (arith, dels, few_dels)) a.said
-    (λ more e. adds_back d s.kinds tag h few s.add (marks false s.add) [] (marks true s.dele) more (λ k x lt. record { sound = sound.add k x lt; typed = typed.add k x lt }) typed.free_add refl
+    ap (effect_in d (parameters_of s.kinds) tag no_effs at) a.is
+    ∙ ap (effect_by d (parameters_of s.kinds) tag no_effs at a.at (codes "and") a.more (effects_in d (parameters_of s.kinds) tag no_effs a.more)) head_and
+    ∙ deletes_back d s.kinds tag mark takes h few s.dele (marks mark s.dele) [] a.more _ _ (λ k x lt. record { sound = sound.dele k x lt; typed = typed.dele k x lt }) refl (omega (arith, dels, few_dels)) a.said
+    (λ more e. adds_back d s.kinds tag mark takes h few s.add (marks false s.add) [] (marks mark s.dele) more (λ k x lt. record { sound = sound.add k x lt; typed = typed.add k x lt }) typed.free_add refl
     (omega (arith, adds, few_adds)) e)
 
 -- the effects at the end of an action are read as they are
@@ -146,7 +157,12 @@ effects_back d s at items h sound typed said =
     ap (timed_effect_in d (parameters_of s.kinds) no_effs at) w.is
     ∙ ap (timed_effect_by d (parameters_of s.kinds) no_effs at w.at w.more _) head_at
     ∙ bound _ (ap (tag_next at) v.is)
-    (bound _ (ap group_at g.is) (bound _ (inside_back d s at g.at g.inside h sound typed g.within) (bound _ (ap nothing last.is) refl)))
+    (bound _ (ap group_at g.is) (bound _ (inside_back d s (End at) true g.at g.inside (takes_end at) h sound typed g.within) (bound _ (ap nothing last.is) refl)))
+
+-- the effects of an action without a duration are read as they are
+pub plain_back : (d : Declared) (s : Schema) (at : ℕ) (items : Items) → HasSpelling d → IsSoundOver d s → IsTyped d s → says items ≡ effects_nest d s
+    → effect_in d (parameters_of s.kinds) Plain no_effs at items ≡ Ok (effs (marks false s.add) (marks false s.dele))
+plain_back d s at items h sound typed said = inside_back d s Plain false at items takes_plain h sound typed said
 
 -- and their atoms are those that the action adds and deletes
 pub effects_read : (d : Declared) (s : Schema) (at : ℕ) (items : Items) → HasSpelling d → IsSoundOver d s → IsTyped d s

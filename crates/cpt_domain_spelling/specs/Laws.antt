@@ -1,4 +1,4 @@
-use Rattle.std.specs.Prelude.{◌≡◌, ℕ, Bool, ◌≤◌, true, List, [], length, slice_index_or, All, Ok, None, codes}
+use Rattle.std.specs.Prelude.{◌≡◌, ℕ, Bool, ◌≤◌, true, false, List, [], length, slice_index_or, All, Ok, None, codes}
 use Rattle.cpt_sexp.specs.Grammar.{ForestShape}
 use Rattle.cpt_sexp.specs.Printing.{nothing, name, list, nest_of}
 use Rattle.cpt_pddl.specs.declared.typed.Sort.{Sort}
@@ -12,6 +12,7 @@ use Rattle.cpt_declared.specs.Kinds.{kinds_in}
 use Rattle.cpt_declared.specs.Signatures.{functions_in, no_signatures, predicates_in}
 use Rattle.cpt_declared.specs.declared.declared.Declared.{Declared}
 use Rattle.cpt_schema.specs.declared.durations.Lasting.{Lasting}
+use Rattle.cpt_schema.specs.declared.durations.Lasting.TheVariants.{Fixed}
 use Rattle.cpt_schema.specs.declared.schemas.Schema.{Schema}
 use Rattle.cpt_schema.specs.declared.terms.Term.{Term}
 use Rattle.cpt_schema.specs.Conditions.{condition_in}
@@ -29,7 +30,7 @@ use Rattle.cpt_domain_spelling.specs.Names.{named}
 use Rattle.cpt_domain_spelling.specs.Siblings.{IsArranged, Siblings, siblings_nest}
 use Rattle.cpt_domain_spelling.specs.Saying.{says}
 use Rattle.cpt_domain_spelling.specs.Spellable.{AreDistinct, AreUnreserved, AreOfTypes, HasSpelling, IsSoundOver, IsSpellable, IsTyped, IsTypedLasting, IsWellFormed}
-use Rattle.cpt_domain_spelling.specs.Spelling.{action_nest, conditions_nest, domain_nest, duration_nest, effects_nest, parameters_of, signatures_nest, terms_nest, typed_nest}
+use Rattle.cpt_domain_spelling.specs.Spelling.{action_nest, conditions_nest, domain_nest, duration_nest, effects_nest, parameters_of, plain_action_nest, signatures_nest, terms_nest, typed_nest}
 
 -- a typed list that says different names with their types, each of one of these types, is read as them
 abbrev pub TypedListsReadBack : Type 0
@@ -89,6 +90,12 @@ abbrev pub ActionsReadBack : Type 0
 ActionsReadBack =
     (d : Declared) (s : Schema) (known : List (List ℕ)) (items : Items) → HasSpelling d → IsSoundOver d s → IsTyped d s → is_name s.name ≡ true → place_in known s.name ≡ None →
     says items ≡ action_nest d s → schema_in true d known items ≡ Ok s
+
+-- an action that takes one unit of time is read as it is where it is spelled without a duration
+abbrev pub PlainActionsReadBack : Type 0
+PlainActionsReadBack =
+    (d : Declared) (s : Schema) (known : List (List ℕ)) (items : Items) → HasSpelling d → IsSoundOver d s → IsTyped d s → s.dur ≡ Fixed 1 → is_name s.name ≡ true → place_in known s.name ≡ None →
+    says items ≡ plain_action_nest d s → schema_in false d known items ≡ Ok s
 
 -- a parsed text that says the spelling of a domain is read as this domain, wherever its words and groups stand
 abbrev pub DomainsReadBack : Type 0

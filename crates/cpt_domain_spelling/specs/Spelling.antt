@@ -115,6 +115,14 @@ timing_nest declared s = name (codes ":duration") (list (duration_nest declared 
 abbrev pub action_nest : Declared → Schema → Nest
 action_nest declared s = name s.name (name (codes ":parameters") (list (variables_nest declared.types.names s.kinds) (timing_nest declared s)))
 
+-- an action that takes one unit of time can be spelled without a duration
+abbrev pub plain_nest : Declared → Schema → Nest
+plain_nest declared s =
+    name (codes ":precondition") (list (conditions_nest declared s) (name (codes ":effect") (list (effects_nest declared s) nothing)))
+
+abbrev pub plain_action_nest : Declared → Schema → Nest
+plain_action_nest declared s = name s.name (name (codes ":parameters") (list (variables_nest declared.types.names s.kinds) (plain_nest declared s)))
+
 -- actions, each in its group: its conditions hold over all of it, and its effects come at its end
 abbrev pub actions_nest : Declared → List Schema → Nest
 actions_nest declared [] = nothing

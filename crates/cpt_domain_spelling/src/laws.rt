@@ -1,6 +1,6 @@
 //! The laws.
 
-ghost use Rattle.cpt_domain_spelling.specs.Laws.{ActionsReadBack, ConditionsReadBack, DomainsReadBack, DurationsReadBack, EffectsReadBack, FunctionsReadBack, PredicatesReadBack, ReadActionsAreTyped, ReadDomainsAreSpellable, ReadDomainsAreWellFormed, ReadTypesAreArranged, TermsReadBack, TypedListsReadBack, TypesReadBack};
+ghost use Rattle.cpt_domain_spelling.specs.Laws.{ActionsReadBack, ConditionsReadBack, DomainsReadBack, DurationsReadBack, EffectsReadBack, FunctionsReadBack, PlainActionsReadBack, PredicatesReadBack, ReadActionsAreTyped, ReadDomainsAreSpellable, ReadDomainsAreWellFormed, ReadTypesAreArranged, TermsReadBack, TypedListsReadBack, TypesReadBack};
 ghost use Rattle.cpt_domain_spelling.specs.Sample.{LampsAreSpelled};
 ghost use Rattle.cpt_domain_spelling.specs.Siblings.{LesserParentsStand};
 ghost use Rattle.cpt_domain_spelling.specs.Texts.{TextsReadBack};
@@ -50,6 +50,11 @@ pub fn durations_read_back()
 /// A sound action is read as it is, where its name is new.
 pub fn actions_read_back()
     ensures { ActionsReadBack }
+{}
+
+/// A sound action that takes one unit of time is read as it is where it is spelled without a duration.
+pub fn plain_actions_read_back()
+    ensures { PlainActionsReadBack }
 {}
 
 /// A parsed text that says the spelling of a domain is read as this domain, wherever its words and groups stand.
