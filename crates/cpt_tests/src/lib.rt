@@ -8,7 +8,11 @@ mod counting;
 #[cfg(test)]
 mod parts;
 #[cfg(test)]
+mod pddl;
+#[cfg(test)]
 mod plans;
+#[cfg(test)]
+mod problems;
 #[cfg(test)]
 mod scene;
 #[cfg(test)]

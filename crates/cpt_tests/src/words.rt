@@ -5,7 +5,7 @@ use std::test::Fail;
 
 #[test]
 fn words_that_ask_for_no_command_are_usage(rt: HostRuntime) -> Result<(), Fail> {
-    let lists: [&[&str]; 9] = [
+    let lists: [&[&str]; 17] = [
         &[],
         &["validate-task"],
         &["validate-task", "t"],
@@ -14,6 +14,14 @@ fn words_that_ask_for_no_command_are_usage(rt: HostRuntime) -> Result<(), Fail> 
         &["validate-task", "t", "-p"],
         &["Validate-task", "t", "p"],
         &["plan", "t", "p"],
+        &["ground"],
+        &["ground", "t"],
+        &["ground", "t", "p", "q"],
+        &["ground", "t", "-p"],
+        &["validate", "t", "p"],
+        &["validate", "t", "p", ""],
+        &["validate", "-t", "p", "q"],
+        &["validate", "t", "p", "p", "p"],
         &["--help"],
     ];
     for words in lists {
