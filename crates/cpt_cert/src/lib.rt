@@ -11,8 +11,6 @@ mod reading;
 mod rendering;
 mod rows;
 mod steps;
-#[cfg(test)]
-mod tests;
 mod values;
 mod words;
 

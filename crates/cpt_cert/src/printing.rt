@@ -341,7 +341,7 @@ pub fn print_cert<K: Sink>(
     requires whole { IsWhole task.now cert.now }
     requires faults { K.faults out.old < 2 ^ 64 - 1 }
     ensures ok { OnOk result (K.written out.new ≡ append_known (K.written out.old) (cert_text version task.now (parts_of cert.now))) }
-    ensures memory { IsErrOf result PrintError.Memory → out.new ≡ out.old }
+    ensures memory { IsErrOf result PrintError.Memory → ⊥ }
     ensures failed { IsErrOf result PrintError.Failed → AppendsFront (K.written out.old) (K.written out.new) (cert_text version task.now (parts_of cert.now)) }
     // `Failed` has its cause in the sink, and nothing else adds to its faults.
     ensures cause { IsErrOf result PrintError.Failed → K.faults out.old < K.faults out.new }

@@ -1,8 +1,8 @@
 //! The checker of certificates.
 #![tactic(auto)]
 
-mod rows;
-mod walk;
+mod checking;
+mod judged;
 
-pub use rows::{is_row, put_dist_row, put_pair_row};
-pub use walk::{Frame, Past, Place, Turn, Walk, take_node};
+pub use checking::check;
+pub use judged::{CheckError, Judged, Ruling};

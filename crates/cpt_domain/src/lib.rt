@@ -5,8 +5,6 @@ mod domain;
 mod error;
 mod keys;
 mod reading;
-#[cfg(test)]
-mod tests;
 
 pub use cpt_pddl::Feature;
 pub use cpt_schema::{Lasting, Lit, Schema, Term, Test};

@@ -8,8 +8,6 @@ mod objects;
 mod reading;
 mod sections;
 mod tables;
-#[cfg(test)]
-mod tests;
 mod timing;
 mod values;
 

@@ -1,0 +1,187 @@
+//! A certificate in both versions, its length, and puts that fail.
+
+ghost use Rattle.std.specs.Prelude.{◌≡◌, [], ◌∷◌, IfSome, IfOk};
+ghost use Rattle.cpt_tables.specs.Spans.{IsBelow};
+ghost use Rattle.cpt_tables.specs.Shapes.{FitsPairs, FitsDists};
+ghost use Rattle.cpt_sheet.specs.Gaps.{FitsTask};
+ghost use Rattle.cpt_cert.specs.Whole.{IsWhole};
+
+use cpt_cert::{Cert, Claim, Version, cert_len, print_cert};
+use cpt_io::{MemSink, Sink};
+use cpt_sheet::{NodeLine, Tree};
+use cpt_tables::{DistTable, PairTable, Tables};
+use cpt_task::{Action, Ids, List, Span, Task};
+use std::alloc::Global;
+use std::test::Fail;
+
+fn ids(alloc: Global, xs: &[u32]) -> Option<Ids> {
+    Ids::from_vec(Vec::from_slice(alloc, xs).ok()?)
+}
+
+fn action(alloc: Global, dur: u32, pre: &[u32], add: &[u32]) -> Option<Action> {
+    Some(Action {
+        name: List::from_vec(Vec::new(alloc)),
+        dur,
+        pre: ids(alloc, pre)?,
+        add: ids(alloc, add)?,
+        dele: ids(alloc, pre)?,
+    })
+}
+
+// The first action adds the key, and each of the others needs it, uses it up and adds an atom of the goal.
+fn key_task(alloc: Global) -> Option<Task> {
+    let name = || List::from_vec(Vec::new(alloc));
+    let atoms = vec![in alloc; name(), name(), name()].ok()?;
+    let make = action(alloc, 1, &[], &[0])?;
+    let first = action(alloc, 2, &[0], &[1])?;
+    let second = action(alloc, 2, &[0], &[2])?;
+    let actions = vec![in alloc; make, first, second].ok()?;
+    if atoms.len() > 9 || actions.len() > 9 {
+        return None;
+    }
+    Task::build(atoms, actions, ids(alloc, &[])?, ids(alloc, &[1, 2])?).ok()
+}
+
+fn put_pair(task: &Task, pairs: &mut PairTable, p: u32, q: u32, n: u64)
+    requires fits { FitsPairs task.now pairs.old }
+    requires small { IsBelow 1000000000000000 (Span.At n) }
+    ensures { FitsPairs task.now pairs.new }
+{
+    if p < pairs.atoms() && q < pairs.atoms() {
+        pairs.set(p, q, Span::At(n));
+    }
+}
+
+fn put_dist(task: &Task, dists: &mut DistTable, act: u32, atom: u32, n: u64)
+    requires fits { FitsDists task.now dists.old }
+    requires small { IsBelow 1000000000000000 (Span.At n) }
+    ensures { FitsDists task.now dists.new }
+{
+    if act < dists.actions() && atom < dists.atoms() {
+        dists.set(act, atom, Span::At(n));
+    }
+}
+
+fn key_pairs(alloc: Global, task: &Task) -> Option<PairTable>
+    ensures { IfSome result (FitsPairs task.now) }
+{
+    let count = task.atoms().len();
+    if count > 2048 {
+        return None;
+    }
+    let mut pairs = PairTable::filled(alloc, count as u32, Span::At(3)).ok()?;
+    put_pair(task, &mut pairs, 0, 0, 1);
+    put_pair(task, &mut pairs, 0, 1, 4);
+    put_pair(task, &mut pairs, 0, 2, 4);
+    put_pair(task, &mut pairs, 1, 2, 6);
+    Some(pairs)
+}
+
+fn key_dists(alloc: Global, task: &Task) -> Option<DistTable>
+    ensures { IfSome result (FitsDists task.now) }
+{
+    let rows = task.actions().len();
+    let count = task.atoms().len();
+    if rows > 4096 || count > 2048 {
+        return None;
+    }
+    let mut dists = DistTable::filled(alloc, rows as u32, count as u32, Span::At(0)).ok()?;
+    put_dist(task, &mut dists, 1, 0, 1);
+    put_dist(task, &mut dists, 2, 0, 1);
+    Some(dists)
+}
+
+fn key_tables(alloc: Global, task: &Task) -> Option<Tables>
+    ensures { IfSome result (FitsTask task.now) }
+{
+    let pairs = key_pairs(alloc, task)?;
+    let dists = key_dists(alloc, task)?;
+    Some(Tables { pairs, dists })
+}
+
+fn closed_tree(alloc: Global) -> Option<Tree>
+    ensures { IfSome result (λ tree. tree.lines ≡ NodeLine.Close ∷ []) }
+{
+    let mut lines = Vec::new(alloc);
+    lines.push(NodeLine::Close).ok()?;
+    Some(Tree {
+        lines: List::from_vec(lines),
+    })
+}
+
+fn refutation<'a>(task: &Task, tables: &'a Tables, tree: &'a Tree) -> Cert<'a>
+    requires fits { FitsTask task.now tables.now }
+    requires closed { tree.now.lines ≡ NodeLine.Close ∷ [] }
+    ensures { IsWhole task.now result }
+{
+    Cert {
+        claim: Claim::NoneUpTo(5),
+        plan: &[],
+        tables: Some(tables),
+        tree: Some(tree),
+        partial: None,
+    }
+}
+
+// What is written where these puts fail, whether it was all, and the length of the text.
+fn printed(alloc: Global, version: Version, fail: &[u64]) -> Option<(MemSink, bool, u64)> {
+    let task = key_task(alloc)?;
+    let tables = key_tables(alloc, &task)?;
+    let tree = closed_tree(alloc)?;
+    let cert = refutation(&task, &tables, &tree);
+    let mut out = MemSink::new(alloc, 4096, Vec::from_slice(alloc, fail).ok()?).ok()?;
+    let length = cert_len(&task, &cert, version);
+    let done = print_cert(alloc, &task, &cert, version, &mut out).is_ok();
+    Some((out, done, length))
+}
+
+const ONE: [&str; 14] = [
+    "cpt 1\n",
+    "claim none-up-to 5\n",
+    "task 3 3\n",
+    "pairs\n",
+    "h 1 4 4\n",
+    "h 3 6\n",
+    "h 3\n",
+    "dists\n",
+    "d 0 0 0\n",
+    "d 1 0 0\n",
+    "d 1 0 0\n",
+    "tree 5\n",
+    "close\n",
+    "end\n",
+];
+
+const TWO: &str =
+    "cpt 2\nclaim none-up-to 5\ntask 3 3\npairs\nh 1 4*2\nh 3 6\nh 3\ndists\nd 0*3\nd 1 0*2\nd 1 0*2\ntree 5\nclose\nend\n";
+
+#[test]
+fn a_certificate_has_a_text_in_each_version(rt: HostRuntime) -> Result<(), Fail> {
+    let Some((out, done, length)) = printed(rt.alloc(), Version::Two, &[]) else {
+        return Err("memory")?;
+    };
+    assert!(rt; done);
+    assert_eq!(rt; out.written(), TWO.as_bytes());
+    assert_eq!(rt; length, TWO.len() as u64);
+    Ok(())
+}
+
+#[test]
+fn a_line_is_put_in_one_call(rt: HostRuntime) -> Result<(), Fail> {
+    let mut before = String::new(rt.alloc());
+    for (number, line) in ONE.iter().enumerate() {
+        let Some((out, done, _)) = printed(rt.alloc(), Version::One, &[number as u64]) else {
+            return Err("memory")?;
+        };
+        assert!(rt; !done, "put {number}");
+        assert_eq!(rt; out.written(), before.as_bytes(), "put {number}");
+        before.push_str(line)?;
+    }
+    let Some((out, done, length)) = printed(rt.alloc(), Version::One, &[14]) else {
+        return Err("memory")?;
+    };
+    assert!(rt; done);
+    assert_eq!(rt; out.written(), before.as_bytes());
+    assert_eq!(rt; length, before.len() as u64);
+    Ok(())
+}
