@@ -154,7 +154,7 @@ pub record AreDistRows (t : TaskShape) (n : ℕ) (r : DistRows) : Type 0 where
 pub record AreNodesLeft (t : TaskShape) (n : ℕ) (may_open : Bool) (w : Walk) : Type 0 where
   pub walk : IsWalk t w
   pub unread : IsUnread w
-  pub open : w.past.may_open ≡ may_open
+  pub opens : w.past.may_open ≡ may_open
   pub done : w.past.done < n
 
 -- what is still to be read from line n on is formed
