@@ -2,6 +2,8 @@
 #![tactic(auto)]
 
 #[cfg(test)]
+mod judged;
+#[cfg(test)]
 mod lines;
 #[cfg(test)]
 mod printed;

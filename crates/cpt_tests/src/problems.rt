@@ -163,3 +163,29 @@ fn the_plan_is_opened_once_the_task_is_made(rt: HostRuntime) -> Result<(), Fail>
     };
     expect(&rt, rt.alloc(), &absent, 64)
 }
+
+/// An action on thirteen objects that no list of objects passes the test of, and a problem with three objects: there
+/// are 3^13 lists.
+const THIRTEEN: &[File] = &[
+    (
+        "d",
+        "(define (domain d) (:predicates (g)) (:durative-action a :parameters (?a ?b ?c ?d ?e ?f ?h ?i ?j ?k ?l ?m ?n) :duration (= ?duration 1) :condition (not (= ?a ?a)) :effect (at end (g))))",
+    ),
+    (
+        "p",
+        "(define (problem p) (:domain d) (:objects x y z) (:init) (:goal (g)))",
+    ),
+];
+
+#[test]
+fn more_lists_of_objects_than_the_limit_are_refused_though_a_test_leaves_none(
+    rt: HostRuntime,
+) -> Result<(), Fail> {
+    let case = Case {
+        words: LIST,
+        files: THIRTEEN,
+        status: 6,
+        text: "fault: limit instances\n",
+    };
+    expect(&rt, rt.alloc(), &case, 64)
+}
