@@ -223,7 +223,8 @@ enum Change {
 /// Puts the line and its line feed.
 fn put_line(text: &mut Vec<u8>, line: &str) -> Result<(), AllocError> {
     text.extend_from_slice(line.as_bytes())?;
-    text.push(b'\n')
+    text.push(b'\n')?;
+    Ok(())
 }
 
 /// Puts what the change makes of the line at the number.
@@ -305,9 +306,7 @@ fn expect_whole(rt: &impl Abort, alloc: Global, case: &Whole, piece: usize) -> R
 {
     let (task, lines, wanted) = case;
     let text = text_of(alloc, lines, Change::None)?;
-    let Some(task) = task_of(alloc, task) else {
-        Err("task")?
-    };
+    let task = task_of(alloc, task).ok_or("task")?;
     let answer = judged(alloc, &task, text.as_slice(), piece, 1_000_000);
     assert_eq!(rt; answer, Some(Ok(*wanted)), "in pieces of {piece}");
     Ok(())
@@ -345,9 +344,7 @@ fn expect_faults(
     version: Version,
     faults: &[Fault],
 ) -> Result<(), Fail> {
-    let Some(task) = task_of(alloc, task) else {
-        Err("task")?
-    };
+    let task = task_of(alloc, task).ok_or("task")?;
     for (change, line, why) in faults {
         let text = text_of(alloc, lines, *change)?;
         let answer = judged(alloc, &task, text.as_slice(), 7, 1_000_000);
@@ -430,9 +427,7 @@ fn faults_of_plans_steps_and_goals(rt: HostRuntime) -> Result<(), Fail> {
 
 #[test]
 fn a_first_line_that_names_no_version(rt: HostRuntime) -> Result<(), Fail> {
-    let Some(task) = task_of(rt.alloc(), EASY_TASK) else {
-        Err("task")?
-    };
+    let task = task_of(rt.alloc(), EASY_TASK).ok_or("task")?;
     let other = text_of(rt.alloc(), EASY, Change::Line(1, "cpt 3"))?;
     let none = rejected(None, 1, Why::Grammar);
     let answer = judged(rt.alloc(), &task, other.as_slice(), 7, 1000);
@@ -449,9 +444,7 @@ fn a_first_line_that_names_no_version(rt: HostRuntime) -> Result<(), Fail> {
 
 #[test]
 fn a_text_that_is_too_long(rt: HostRuntime) -> Result<(), Fail> {
-    let Some(task) = task_of(rt.alloc(), EASY_TASK) else {
-        Err("task")?
-    };
+    let task = task_of(rt.alloc(), EASY_TASK).ok_or("task")?;
     let text = text_of(rt.alloc(), EASY, Change::None)?;
     let whole = accepted(Version::One, Claim::Optimal(0));
     let answer = judged(rt.alloc(), &task, text.as_slice(), 7, 42);
@@ -466,4 +459,44 @@ fn a_text_that_is_too_long(rt: HostRuntime) -> Result<(), Fail> {
     let answer = judged(rt.alloc(), &task, other.as_slice(), 64, 22);
     assert_eq!(rt; answer, Some(Err(CheckError::TooLong)));
     Ok(())
+}
+
+/// Over the first limit the text is too long, and over the next one its fault is told.
+fn expect_limit(
+    rt: &impl Abort,
+    alloc: Global,
+    task: &Task,
+    text: &[u8],
+    limit: u64,
+    fault: (u64, Why),
+) -> Result<(), Fail>
+    requires { limit < 2 ^ 36 }
+{
+    let (line, why) = fault;
+    let answer = judged(alloc, task, text, 64, limit);
+    assert_eq!(rt; answer, Some(Err(CheckError::TooLong)), "at {limit}");
+    let answer = judged(alloc, task, text, 64, limit + 1);
+    let wanted = rejected(Some(Version::One), line, why);
+    assert_eq!(rt; answer, Some(Ok(wanted)), "above {limit}");
+    Ok(())
+}
+
+#[test]
+fn faults_are_told_where_the_line_from_which_they_are_known_ends_within_the_limit(
+    rt: HostRuntime,
+) -> Result<(), Fail> {
+    let alloc = rt.alloc();
+    let chain = task_of(alloc, CHAIN_TASK).ok_or("task")?;
+    let text = text_of(alloc, CHAIN, Change::Line(2, "claim optimal 4"))?;
+    expect_limit(&rt, alloc, &chain, text.as_slice(), 45, (4, Why::Plan))?;
+    let easy = task_of(alloc, EASY_TASK).ok_or("task")?;
+    let text = text_of(alloc, NEVER, Change::None)?;
+    expect_limit(&rt, alloc, &easy, text.as_slice(), 35, (2, Why::Goal))?;
+    let mixed = task_of(alloc, MIXED_TASK).ok_or("task")?;
+    let text = text_of(alloc, MIXED, Change::Line(5, "h 0 2 3 3 3"))?;
+    expect_limit(&rt, alloc, &mixed, text.as_slice(), 76, (5, Why::Pair))?;
+    // What stands behind `end` is a fault once its line has ended.
+    let mut text = text_of(alloc, EASY, Change::None)?;
+    text.extend_from_slice(b"x\ny")?;
+    expect_limit(&rt, alloc, &easy, text.as_slice(), 43, (6, Why::Grammar))
 }
