@@ -1,2 +1,3 @@
+pub mod Proceeding
 pub mod Sections
 pub mod Stages

@@ -2,5 +2,6 @@
 #![tactic(auto)]
 
 mod section;
+mod tabling;
 
 pub use section::{Aim, DistRows, Items, Next, PairRows, Section, Stage, Trees, Turned};

@@ -1,0 +1,198 @@
+//! The tables of a certificate, row by row.
+
+ghost use Rattle.std.specs.Prelude.{◌≡◌, ◌+◌, ℕ, ◌<◌, ◌≤◌, ◌^◌, length, All, IfOk};
+ghost use Rattle.cpt_tables.specs.Shapes.{FitsPairs, FitsDists, IsWholePairs, IsWholeDists};
+ghost use Rattle.cpt_tables.specs.Admissible.{IsAdmissiblePairs};
+ghost use Rattle.cpt_cert.specs.Forms.{IsRun};
+ghost use Rattle.cpt_verdict.specs.Reading.{values_of};
+ghost use Rattle.cpt_walk.specs.Puts.{PutsPairs, PutsDists};
+ghost use Rattle.cpt_sections.specs.Sections.{Left, IsSection, IsAim, IsLine, Moves, BehindPairs};
+ghost use Rattle.cpt_sections.specs.Proceeding.{Proceeds, ArePairRowsSoFar, AreDistRowsSoFar};
+
+use crate::section::{Aim, DistRows, Next, PairRows, Section, Trees};
+use cpt_cert::{CertLine, Run, Version};
+use cpt_tables::{DistTable, PairTable, Tables, admissible_dists, admissible_pairs, set_span};
+use cpt_task::{Memory, Span, Task};
+use cpt_verdict::Why;
+use cpt_walk::{is_row, put_dist_row, put_pair_row};
+use std::alloc::Global;
+
+/// Behind an admissible pair table, where the goal is never to hold.
+fn judge_goal(task: &Task, pairs: &PairTable) -> Next
+    requires fits { FitsPairs task.now pairs.now }
+    ensures { (v : Version) (n : ℕ) → 2 < n → Proceeds task.now v (BehindPairs task.now v Aim.Goal pairs.now) n result }
+{
+    let _atoms = task.atoms();
+    match set_span(pairs, task.goal()) {
+        Span::Never => Next::On(Section::End),
+        Span::At(_) => Next::Fault {
+            line: 2,
+            why: Why::Goal,
+        },
+    }
+}
+
+/// Behind an admissible pair table.
+fn leave_pairs(task: &Task, aim: Aim, pairs: PairTable) -> Next
+    requires aim { IsAim aim }
+    requires fits { FitsPairs task.now pairs }
+    ensures { (v : Version) (n : ℕ) → 2 < n → Proceeds task.now v (BehindPairs task.now v aim pairs) n result }
+{
+    match aim {
+        Aim::Goal => judge_goal(task, &pairs),
+        Aim::Trees(trees) => Next::On(Section::Dists(trees, pairs)),
+    }
+}
+
+/// All rows of the pair table are read.
+fn judge_pairs(task: &Task, rows: PairRows) -> Next
+    requires rows { ArePairRowsSoFar task.now rows }
+    requires all { rows.next ≡ length task.now.atoms }
+    ensures { (v : Version) → Proceeds task.now v (Left task.now v (Section.PairRows rows)) (rows.head + 1 + rows.next) result }
+{
+    let PairRows {
+        aim, head, pairs, ..
+    } = rows;
+    match admissible_pairs(task, &pairs) {
+        None => leave_pairs(task, aim, pairs),
+        Some(fault) => Next::Fault {
+            line: head + 1 + u64::from(fault.p),
+            why: Why::Pair,
+        },
+    }
+}
+
+/// The next row of the pair table is to be read, or none is left.
+fn after_pairs(task: &Task, rows: PairRows) -> Next
+    requires rows { ArePairRowsSoFar task.now rows }
+    ensures { (v : Version) → Proceeds task.now v (Left task.now v (Section.PairRows rows)) (rows.head + 1 + rows.next) result }
+{
+    if (rows.next as usize) < task.atoms().len() {
+        Next::On(Section::PairRows(rows))
+    } else {
+        judge_pairs(task, rows)
+    }
+}
+
+/// The head of the pair table comes.
+pub(crate) fn at_pairs(
+    alloc: Global,
+    task: &Task,
+    version: Version,
+    aim: Aim,
+    line_number: u64,
+    line: &CertLine,
+) -> Result<Next, Memory>
+    requires section { IsSection task.now line_number (Section.Pairs aim) }
+    requires line { IsLine line.now }
+    requires number { line_number < 2 ^ 40 }
+    requires late { 2 ≤ line_number }
+    requires atoms { length task.now.atoms ≤ 2048 }
+    requires actions { length task.now.actions ≤ 4096 }
+    ensures { IfOk result (Moves task.now version (Section.Pairs aim) line_number line.now) }
+{
+    let _ = version;
+    match line {
+        CertLine::Pairs => {
+            let pairs = PairTable::filled(alloc, task.atoms().len() as u32, Span::Never)?;
+            Ok(after_pairs(
+                task,
+                PairRows {
+                    aim,
+                    head: line_number,
+                    next: 0,
+                    pairs,
+                },
+            ))
+        }
+        _ => Ok(Next::Fault {
+            line: line_number,
+            why: Why::Grammar,
+        }),
+    }
+}
+
+/// Puts a row into the pair table.
+fn with_pair_row(rows: PairRows, runs: &[Run]) -> PairRows
+    requires more { rows.next < rows.pairs.atoms }
+    requires fits { rows.next + length (values_of runs.now) ≡ rows.pairs.atoms }
+    requires runs { All IsRun runs.now }
+    ensures puts { PutsPairs rows.pairs result.pairs rows.next rows.next (values_of runs.now) }
+    ensures whole { IsWholePairs result.pairs }
+    ensures next { result.next ≡ rows.next + 1 }
+    ensures aim { result.aim ≡ rows.aim }
+    ensures head { result.head ≡ rows.head }
+{
+    let PairRows {
+        aim,
+        head,
+        next,
+        pairs,
+    } = rows;
+    let mut pairs = pairs;
+    let _few = pairs.atoms();
+    put_pair_row(&mut pairs, next, runs);
+    let _whole = pairs.atoms();
+    PairRows {
+        aim,
+        head,
+        next: next + 1,
+        pairs,
+    }
+}
+
+fn take_pair_row(
+    task: &Task,
+    version: Version,
+    rows: PairRows,
+    line_number: u64,
+    runs: &[Run],
+) -> Next
+    requires section { IsSection task.now line_number (Section.PairRows rows) }
+    requires runs { All IsRun runs.now }
+    requires number { line_number < 2 ^ 40 }
+    requires late { 2 ≤ line_number }
+    ensures { Moves task.now version (Section.PairRows rows) line_number (CertLine.PairRow runs.now) result }
+{
+    if is_row(version, rows.pairs.atoms() - rows.next, runs) {
+        after_pairs(task, with_pair_row(rows, runs))
+    } else {
+        Next::Fault {
+            line: line_number,
+            why: Why::Grammar,
+        }
+    }
+}
+
+/// A row of the pair table comes.
+pub(crate) fn at_pair_row(
+    alloc: Global,
+    task: &Task,
+    version: Version,
+    rows: PairRows,
+    line_number: u64,
+    line: &CertLine,
+) -> Result<Next, Memory>
+    requires section { IsSection task.now line_number (Section.PairRows rows) }
+    requires line { IsLine line.now }
+    requires number { line_number < 2 ^ 40 }
+    requires late { 2 ≤ line_number }
+    requires atoms { length task.now.atoms ≤ 2048 }
+    requires actions { length task.now.actions ≤ 4096 }
+    ensures { IfOk result (Moves task.now version (Section.PairRows rows) line_number line.now) }
+{
+    let _ = alloc;
+    match line {
+        CertLine::PairRow(runs) => Ok(take_pair_row(
+            task,
+            version,
+            rows,
+            line_number,
+            runs.as_slice(),
+        )),
+        _ => Ok(Next::Fault {
+            line: line_number,
+            why: Why::Grammar,
+        }),
+    }
+}
