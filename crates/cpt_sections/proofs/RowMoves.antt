@@ -153,3 +153,119 @@ module _ (t : TaskShape) (v : Version) where
       other (lines.Tree b) h = refl
       other (lines.OpenTree b) h = refl
       other lines.End h = refl
+
+  -- no row of distances is left
+  no_dist_left : (r : DistRows) (n : ℕ) (ls : List CertLine) → r.next ≡ length t.actions → went [] ls n ≡ take_dist_rows v (length t.atoms) (length t.actions - r.next) n ls
+  no_dist_left r n ls all = let none : 0 ≡ length t.actions - r.next = omega (arith, all) in ap (λ k. take_dist_rows v (length t.atoms) k n ls) none
+
+  all_dist_rows : (r : DistRows) → AreDistRowsSoFar t r → r.next ≡ length t.actions → first_dist_rows r.dists r.next ++ [] ≡ dist_rows r.dists
+  all_dist_rows r so all = let size = so.dists.actions in let next : r.next ≡ r.dists.actions = omega (arith, size, all) in append-nil (first_dist_rows r.dists r.next) ∙ ap (first_dist_rows r.dists) next
+
+  pub good_dists : (r : DistRows) (n : ℕ) → AreDistRowsSoFar t r → r.next ≡ length t.actions → IsAdmissibleDists t r.pairs r.dists → (ls : List CertLine) (x : Outcome (Unit {0})) → ReadsTrees t r.trees (record { pairs = r.pairs; dists = r.dists }) n ls x → Left t v (sections.DistRows r) n ls x
+  good_dists r n so all ok ls x h = (
+      went r.dists ls n,
+      (went [] ls n, no_dist_left r n ls all, (r.dists, record { whole = so.whole; fits = so.dists; same = all_dist_rows r so all }, inl (ok, refl))),
+      h,
+    )
+
+  pub bad_dists : (r : DistRows) (n : ℕ) → AreDistRowsSoFar t r → r.next ≡ length t.actions → (f : DistFault) → IsDistFault t r.pairs r.dists f → (ls : List CertLine) → Left t v (sections.DistRows r) n ls (faulted (r.head + 1 + f.act) whys.Dist)
+  bad_dists r n so all f fault ls = (
+      faulted (r.head + 1 + f.act) whys.Dist,
+      (went [] ls n, no_dist_left r n ls all, (r.dists, record { whole = so.whole; fits = so.dists; same = all_dist_rows r so all }, inr (f, fault, refl))),
+      refl,
+    )
+
+  -- a row of distances is read
+  pub take_dist_row : (old new : DistRows) (n : ℕ) (runs : List Run) → new.trees ≡ old.trees → new.head ≡ old.head → new.pairs ≡ old.pairs → new.next ≡ old.next + 1 → old.next < length t.actions → is_row v (length t.atoms) runs ≡ true →
+      first_dist_rows new.dists new.next ≡ first_dist_rows old.dists old.next ++ values_of runs ∷ [] →
+      (ls : List CertLine) (x : Outcome (Unit {0})) → Left t v (sections.DistRows new) (n + 1) ls x → Left t v (sections.DistRows old) n (lines.DistRow runs ∷ ls) x
+  take_dist_row old new n runs trees head pairs next more row rows ls x (y, reads, rest) = (
+      y,
+      read reads,
+      subst (λ h. After (λ d. ReadsTrees t old.trees (record { pairs = h; dists = d })) y x) pairs (subst (λ a. After (λ d. ReadsTrees t a (record { pairs = new.pairs; dists = d })) y x) trees rest),
+    )
+    where
+      judged : (z : Outcome (List (List Span))) → After (λ rs. JudgesDists t new.pairs new.head (first_dist_rows new.dists new.next ++ rs)) z y →
+          After (λ rs. JudgesDists t old.pairs old.head (first_dist_rows old.dists old.next ++ rs)) (behind (λ rs. values_of runs ∷ rs) z) y
+      judged (went rs rest m) h =
+          subst (λ p. JudgesDists t p old.head (first_dist_rows old.dists old.next ++ (values_of runs ∷ rs)) m rest y) pairs
+          (subst (λ k. JudgesDists t new.pairs k (first_dist_rows old.dists old.next ++ (values_of runs ∷ rs)) m rest y) head
+              (subst (λ (all : List (List Span)). JudgesDists t new.pairs new.head all m rest y) (ap (λ z. z ++ rs) rows ∙ append_assoc (first_dist_rows old.dists old.next) (values_of runs ∷ []) rs) h))
+      judged (faulted line why) h = h
+
+      left : length t.actions - old.next ≡ suc (length t.actions - new.next)
+      left = omega (arith, next, more)
+
+      read : ReadsDistRows t v new (n + 1) ls y → ReadsDistRows t v old n (lines.DistRow runs ∷ ls) y
+      read (z, e, h) = (
+          behind (λ rs. values_of runs ∷ rs) z,
+          ap (behind (λ rs. values_of runs ∷ rs)) e
+          ∙ sym (ap (λ b. if b then behind (λ rs. values_of runs ∷ rs) (take_dist_rows v (length t.atoms) (length t.actions - new.next) (n + 1) ls) else faulted n whys.Grammar) row)
+          ∙ sym (ap (λ k. take_dist_rows v (length t.atoms) k n (lines.DistRow runs ∷ ls)) left),
+          judged z h,
+        )
+
+  -- a line that is no row of distances
+  dist_row_fails : (r : DistRows) (n : ℕ) (line : CertLine) (ls : List CertLine) → take_dist_rows v (length t.atoms) (length t.actions - r.next) n (line ∷ ls) ≡ faulted n whys.Grammar → Left t v (sections.DistRows r) n (line ∷ ls) (faulted n whys.Grammar)
+  dist_row_fails r n line ls e = (faulted n whys.Grammar, (faulted n whys.Grammar, sym e, refl), refl)
+
+  one_dist_more : (r : DistRows) → r.next < length t.actions → length t.actions - r.next ≡ suc (length t.actions - (r.next + 1))
+  one_dist_more r more = omega (arith, more)
+
+  pub strange_dist_row : (r : DistRows) (n : ℕ) (line : CertLine) → r.next < length t.actions → ((runs : List Run) → line ≢ lines.DistRow runs) → (ls : List CertLine) → Left t v (sections.DistRows r) n (line ∷ ls) (faulted n whys.Grammar)
+  strange_dist_row r n line more ne ls = dist_row_fails r n line ls (ap (λ k. take_dist_rows v (length t.atoms) k n (line ∷ ls)) (one_dist_more r more) ∙ other (length t.actions - (r.next + 1)) line ne)
+    where
+      other : (k : ℕ) (l : CertLine) → ((runs : List Run) → l ≢ lines.DistRow runs) → take_dist_rows v (length t.atoms) (suc k) n (l ∷ ls) ≡ faulted n whys.Grammar
+      other k (lines.DistRow runs) h = absurd (h runs refl)
+      other k (lines.PairRow runs) h = refl
+      other k (lines.Node l) h = refl
+      other k lines.Strange h = refl
+      other k (lines.First w) h = refl
+      other k (lines.Claimed c) h = refl
+      other k (lines.Sizes a b) h = refl
+      other k (lines.Plan m) h = refl
+      other k (lines.Item a b) h = refl
+      other k lines.Pairs h = refl
+      other k lines.Dists h = refl
+      other k (lines.Tree b) h = refl
+      other k (lines.OpenTree b) h = refl
+      other k lines.End h = refl
+
+  pub false_dist_row : (r : DistRows) (n : ℕ) (runs : List Run) → r.next < length t.actions → is_row v (length t.atoms) runs ≡ false → (ls : List CertLine) → Left t v (sections.DistRows r) n (lines.DistRow runs ∷ ls) (faulted n whys.Grammar)
+  false_dist_row r n runs more bad ls =
+      dist_row_fails r n (lines.DistRow runs) ls (
+        ap (λ k. take_dist_rows v (length t.atoms) k n (lines.DistRow runs ∷ ls)) (one_dist_more r more)
+        ∙ ap (λ b. if b then behind (λ rs. values_of runs ∷ rs) (take_dist_rows v (length t.atoms) (length t.actions - (r.next + 1)) (n + 1) ls) else faulted n whys.Grammar) bad
+        )
+
+  -- the head of the distance table
+  pub begin_dists : (trees : Trees) (h : PairShape) (r : DistRows) (n : ℕ) → r.trees ≡ trees → r.pairs ≡ h → r.head ≡ n → r.next ≡ 0 → (ls : List CertLine) (x : Outcome (Unit {0})) → Left t v (sections.DistRows r) (n + 1) ls x → Left t v (sections.Dists trees h) n (lines.Dists ∷ ls) x
+  begin_dists trees h r n same over head none ls x (y, (z, e, k), rest) = (
+      y,
+      (z, e ∙ ap (λ i. take_dist_rows v (length t.atoms) i (n + 1) ls) (let all : length t.actions - r.next ≡ length t.actions = omega (arith, none) in all), judged z k),
+      subst (λ p. After (λ d. ReadsTrees t trees (record { pairs = p; dists = d })) y x) over (subst (λ a. After (λ d. ReadsTrees t a (record { pairs = r.pairs; dists = d })) y x) same rest),
+    )
+    where
+      judged : (z : Outcome (List (List Span))) → After (λ rs. JudgesDists t r.pairs r.head (first_dist_rows r.dists r.next ++ rs)) z y → After (JudgesDists t h n) z y
+      judged (went rs end m) k =
+          subst (λ p. JudgesDists t p n rs m end y) over (subst (λ i. JudgesDists t r.pairs i rs m end y) head (subst (λ i. JudgesDists t r.pairs r.head (first_dist_rows r.dists i ++ rs) m end y) none k))
+      judged (faulted line why) k = k
+
+  pub strange_dists : (trees : Trees) (h : PairShape) (n : ℕ) (line : CertLine) → line ≢ lines.Dists → (ls : List CertLine) → Left t v (sections.Dists trees h) n (line ∷ ls) (faulted n whys.Grammar)
+  strange_dists trees h n line ne ls = (faulted n whys.Grammar, (faulted n whys.Grammar, sym (other line ne), refl), refl)
+    where
+      other : (l : CertLine) → l ≢ lines.Dists → take_dists v (length t.atoms) (length t.actions) n (l ∷ ls) ≡ faulted n whys.Grammar
+      other lines.Dists h = absurd (h refl)
+      other lines.Pairs h = refl
+      other (lines.PairRow runs) h = refl
+      other (lines.DistRow runs) h = refl
+      other (lines.Node l) h = refl
+      other lines.Strange h = refl
+      other (lines.First w) h = refl
+      other (lines.Claimed c) h = refl
+      other (lines.Sizes a b) h = refl
+      other (lines.Plan m) h = refl
+      other (lines.Item a b) h = refl
+      other (lines.Tree b) h = refl
+      other (lines.OpenTree b) h = refl
+      other lines.End h = refl

@@ -196,3 +196,179 @@ pub(crate) fn at_pair_row(
         }),
     }
 }
+
+/// All rows of the distance table are read.
+fn judge_dists(task: &Task, rows: DistRows) -> Next
+    requires rows { AreDistRowsSoFar task.now rows }
+    requires all { rows.next ≡ length task.now.actions }
+    ensures { (v : Version) → Proceeds task.now v (Left task.now v (Section.DistRows rows)) (rows.head + 1 + rows.next) result }
+{
+    let DistRows {
+        trees,
+        head,
+        pairs,
+        dists,
+        ..
+    } = rows;
+    match admissible_dists(task, &pairs, &dists) {
+        None => Next::On(Section::Tree(trees, Tables { pairs, dists })),
+        Some(fault) => Next::Fault {
+            line: head + 1 + u64::from(fault.act),
+            why: Why::Dist,
+        },
+    }
+}
+
+/// The next row of the distance table is to be read, or none is left.
+fn after_dists(task: &Task, rows: DistRows) -> Next
+    requires rows { AreDistRowsSoFar task.now rows }
+    ensures { (v : Version) → Proceeds task.now v (Left task.now v (Section.DistRows rows)) (rows.head + 1 + rows.next) result }
+{
+    if (rows.next as usize) < task.actions().len() {
+        Next::On(Section::DistRows(rows))
+    } else {
+        judge_dists(task, rows)
+    }
+}
+
+/// A distance table of the task's sizes.
+fn empty_dists(alloc: Global, task: &Task) -> Result<DistTable, Memory>
+    requires atoms { length task.now.atoms ≤ 2048 }
+    requires actions { length task.now.actions ≤ 4096 }
+    ensures fits { IfOk result (λ dists. FitsDists task.now dists) }
+    ensures whole { IfOk result (λ dists. IsWholeDists dists) }
+{
+    let dists = DistTable::filled(
+        alloc,
+        task.actions().len() as u32,
+        task.atoms().len() as u32,
+        Span::Never,
+    )?;
+    let _whole = dists.atoms();
+    Ok(dists)
+}
+
+/// The head of the distance table comes.
+pub(crate) fn at_dists(
+    alloc: Global,
+    task: &Task,
+    version: Version,
+    trees: Trees,
+    pairs: PairTable,
+    line_number: u64,
+    line: &CertLine,
+) -> Result<Next, Memory>
+    requires section { IsSection task.now line_number (Section.Dists trees pairs) }
+    requires line { IsLine line.now }
+    requires number { line_number < 2 ^ 40 }
+    requires atoms { length task.now.atoms ≤ 2048 }
+    requires actions { length task.now.actions ≤ 4096 }
+    ensures { IfOk result (Moves task.now version (Section.Dists trees pairs) line_number line.now) }
+{
+    let _ = version;
+    match line {
+        CertLine::Dists => {
+            let dists = empty_dists(alloc, task)?;
+            Ok(after_dists(
+                task,
+                DistRows {
+                    trees,
+                    head: line_number,
+                    next: 0,
+                    pairs,
+                    dists,
+                },
+            ))
+        }
+        _ => Ok(Next::Fault {
+            line: line_number,
+            why: Why::Grammar,
+        }),
+    }
+}
+
+/// Puts a row into the distance table.
+fn with_dist_row(rows: DistRows, runs: &[Run]) -> DistRows
+    requires more { rows.next < rows.dists.actions }
+    requires fits { length (values_of runs.now) ≡ rows.dists.atoms }
+    requires runs { All IsRun runs.now }
+    ensures puts { PutsDists rows.dists result.dists rows.next 0 (values_of runs.now) }
+    ensures whole { IsWholeDists result.dists }
+    ensures next { result.next ≡ rows.next + 1 }
+    ensures trees { result.trees ≡ rows.trees }
+    ensures head { result.head ≡ rows.head }
+    ensures pairs { result.pairs ≡ rows.pairs }
+{
+    let DistRows {
+        trees,
+        head,
+        next,
+        pairs,
+        dists,
+    } = rows;
+    let mut dists = dists;
+    let _few = dists.actions();
+    put_dist_row(&mut dists, next, runs);
+    let _whole = dists.atoms();
+    DistRows {
+        trees,
+        head,
+        next: next + 1,
+        pairs,
+        dists,
+    }
+}
+
+fn take_dist_row(
+    task: &Task,
+    version: Version,
+    rows: DistRows,
+    line_number: u64,
+    runs: &[Run],
+) -> Next
+    requires section { IsSection task.now line_number (Section.DistRows rows) }
+    requires runs { All IsRun runs.now }
+    requires number { line_number < 2 ^ 40 }
+    ensures { Moves task.now version (Section.DistRows rows) line_number (CertLine.DistRow runs.now) result }
+{
+    if is_row(version, rows.dists.atoms(), runs) {
+        after_dists(task, with_dist_row(rows, runs))
+    } else {
+        Next::Fault {
+            line: line_number,
+            why: Why::Grammar,
+        }
+    }
+}
+
+/// A row of the distance table comes.
+pub(crate) fn at_dist_row(
+    alloc: Global,
+    task: &Task,
+    version: Version,
+    rows: DistRows,
+    line_number: u64,
+    line: &CertLine,
+) -> Result<Next, Memory>
+    requires section { IsSection task.now line_number (Section.DistRows rows) }
+    requires line { IsLine line.now }
+    requires number { line_number < 2 ^ 40 }
+    requires atoms { length task.now.atoms ≤ 2048 }
+    requires actions { length task.now.actions ≤ 4096 }
+    ensures { IfOk result (Moves task.now version (Section.DistRows rows) line_number line.now) }
+{
+    let _ = alloc;
+    match line {
+        CertLine::DistRow(runs) => Ok(take_dist_row(
+            task,
+            version,
+            rows,
+            line_number,
+            runs.as_slice(),
+        )),
+        _ => Ok(Next::Fault {
+            line: line_number,
+            why: Why::Grammar,
+        }),
+    }
+}
