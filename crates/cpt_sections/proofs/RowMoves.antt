@@ -1,18 +1,18 @@
 -- what a row of a table does to what is still to be read
-use Rattle.std.proofs.Common.{◌≡◌, ◌≢◌, ℕ, zero, suc, ◌+◌, ◌-◌, ◌<◌, ◌≤◌, if◌then◌else◌, true, false, List, [], ◌∷◌, ◌++◌, length, inl, inr, refl, sym, ap, subst, ◌∙◌, arith, append_assoc, append-nil}
+use Rattle.std.proofs.Common.{◌≡◌, ◌≢◌, ℕ, suc, ◌+◌, ◌-◌, ◌<◌, if◌then◌else◌, true, false, List, [], ◌∷◌, ◌++◌, length, inl, inr, refl, sym, ap, subst, ◌∙◌, arith, append_assoc, append-nil}
 use Rattle.cpt_task.specs.declared.span.Span.{Span}
 use Rattle.cpt_task.specs.declared.span.Span.TheVariants.{Never}
 use Rattle.cpt_task.specs.Shape.{TaskShape}
 use Rattle.cpt_tables.specs.declared.faults.PairFault.{PairFault}
 use Rattle.cpt_tables.specs.declared.faults.DistFault.{DistFault}
-use Rattle.cpt_tables.specs.Shapes.{PairShape, DistShape, FitsPairs, FitsDists, IsWholePairs, IsWholeDists, set_span_of}
+use Rattle.cpt_tables.specs.Shapes.{PairShape, set_span_of}
 use Rattle.cpt_tables.specs.Admissible.{IsAdmissiblePairs, IsAdmissibleDists, IsPairFault, IsDistFault}
 use Rattle.cpt_cert.specs.declared.forms.Version.{Version}
 use Rattle.cpt_cert.specs.declared.forms.Run.{Run}
 use Rattle.cpt_cert.specs.declared.forms.CertLine.{CertLine}
 use Rattle.cpt_cert.specs.declared.forms.CertLine.TheVariants as lines
 use Rattle.cpt_verdict.specs.declared.faults.Why.TheVariants as whys
-use Rattle.cpt_verdict.specs.Reading.{Outcome, Then, After, behind, values_of, is_row, take_pair_rows, take_pairs, take_dist_rows, take_dists, take_end, pair_rows, dist_rows, JudgesPairs, JudgesDists, JudgesGoal}
+use Rattle.cpt_verdict.specs.Reading.{Outcome, After, behind, values_of, is_row, take_pair_rows, take_pairs, take_dist_rows, take_dists, take_end, pair_rows, dist_rows, JudgesPairs, JudgesDists}
 use Rattle.cpt_verdict.specs.Reading.Outcome.{went, faulted}
 use Rattle.cpt_sections.specs.declared.section.Trees.{Trees}
 use Rattle.cpt_sections.specs.declared.section.Aim.{Aim}
@@ -23,7 +23,7 @@ use Rattle.cpt_sections.specs.declared.section.Section.{Section}
 use Rattle.cpt_sections.specs.declared.section.Section.TheVariants as sections
 use Rattle.cpt_sections.specs.declared.section.Next.{Next}
 use Rattle.cpt_sections.specs.declared.section.Next.TheVariants as nexts
-use Rattle.cpt_sections.specs.Sections.{Left, Moves, ReadsAim, BehindPairs, ReadsPairRows, ReadsDistRows, ReadsTrees, first_pair_rows, first_dist_rows}
+use Rattle.cpt_sections.specs.Sections.{Left, Moves, BehindPairs, ReadsPairRows, ReadsDistRows, ReadsTrees, first_pair_rows, first_dist_rows}
 use Rattle.cpt_sections.specs.Proceeding.{Proceeds, ArePairRowsSoFar, AreDistRowsSoFar}
 
 module _ (t : TaskShape) (v : Version) where
@@ -53,17 +53,17 @@ module _ (t : TaskShape) (v : Version) where
 
   pub good_pairs : (r : PairRows) (n : ℕ) → ArePairRowsSoFar t r → r.next ≡ length t.atoms → IsAdmissiblePairs t r.pairs → (ls : List CertLine) (x : Outcome (Unit {0})) → BehindPairs t v r.aim r.pairs n ls x → Left t v (sections.PairRows r) n ls x
   good_pairs r n so all ok ls x h = (
-      went r.pairs ls n,
-      (went [] ls n, no_pair_left r n ls all, (r.pairs, record { whole = so.whole; fits = so.fits; same = all_pair_rows r so all }, inl (ok, refl))),
-      h,
-    )
+    went r.pairs ls n,
+    (went [] ls n, no_pair_left r n ls all, (r.pairs, record { whole = so.whole; fits = so.fits; same = all_pair_rows r so all }, inl (ok, refl))),
+    h,
+  )
 
   pub bad_pairs : (r : PairRows) (n : ℕ) → ArePairRowsSoFar t r → r.next ≡ length t.atoms → (f : PairFault) → IsPairFault t r.pairs f → (ls : List CertLine) → Left t v (sections.PairRows r) n ls (faulted (r.head + 1 + f.p) whys.Pair)
   bad_pairs r n so all f fault ls = (
-      faulted (r.head + 1 + f.p) whys.Pair,
-      (went [] ls n, no_pair_left r n ls all, (r.pairs, record { whole = so.whole; fits = so.fits; same = all_pair_rows r so all }, inr (f, fault, refl))),
-      refl,
-    )
+    faulted (r.head + 1 + f.p) whys.Pair,
+    (went [] ls n, no_pair_left r n ls all, (r.pairs, record { whole = so.whole; fits = so.fits; same = all_pair_rows r so all }, inr (f, fault, refl))),
+    refl,
+  )
 
   -- a row is read
   pub take_pair_row : (old new : PairRows) (n : ℕ) (runs : List Run) → new.aim ≡ old.aim → new.head ≡ old.head → new.next ≡ old.next + 1 → old.next < length t.atoms → is_row v (length t.atoms - old.next) runs ≡ true →
@@ -89,10 +89,10 @@ module _ (t : TaskShape) (v : Version) where
 
       read : ReadsPairRows t v new (n + 1) ls y → ReadsPairRows t v old n (lines.PairRow runs ∷ ls) y
       read (z, e, h) = (
-          behind (λ rs. values_of runs ∷ rs) z,
-          ap (behind (λ rs. values_of runs ∷ rs)) e ∙ taken (length t.atoms - new.next) left refl (subst (λ k. is_row v k runs ≡ true) left row),
-          judged z h,
-        )
+        behind (λ rs. values_of runs ∷ rs) z,
+        ap (behind (λ rs. values_of runs ∷ rs)) e ∙ taken (length t.atoms - new.next) left refl (subst (λ k. is_row v k runs ≡ true) left row),
+        judged z h,
+      )
 
   -- a line that is no row
   pair_row_fails : (r : PairRows) (n : ℕ) (line : CertLine) (ls : List CertLine) → take_pair_rows v (length t.atoms - r.next) n (line ∷ ls) ≡ faulted n whys.Grammar → Left t v (sections.PairRows r) n (line ∷ ls) (faulted n whys.Grammar)
@@ -103,19 +103,7 @@ module _ (t : TaskShape) (v : Version) where
     where
       other : (k : ℕ) (l : CertLine) → ((runs : List Run) → l ≢ lines.PairRow runs) → take_pair_rows v (suc k) n (l ∷ ls) ≡ faulted n whys.Grammar
       other k (lines.PairRow runs) h = absurd (h runs refl)
-      other k (lines.DistRow runs) h = refl
-      other k (lines.Node l) h = refl
-      other k lines.Strange h = refl
-      other k (lines.First w) h = refl
-      other k (lines.Claimed c) h = refl
-      other k (lines.Sizes a b) h = refl
-      other k (lines.Plan m) h = refl
-      other k (lines.Item a b) h = refl
-      other k lines.Pairs h = refl
-      other k lines.Dists h = refl
-      other k (lines.Tree b) h = refl
-      other k (lines.OpenTree b) h = refl
-      other k lines.End h = refl
+      other k _ h = refl
 
   pub false_pair_row : (r : PairRows) (n : ℕ) (runs : List Run) → r.next < length t.atoms → is_row v (length t.atoms - r.next) runs ≡ false → (ls : List CertLine) → Left t v (sections.PairRows r) n (lines.PairRow runs ∷ ls) (faulted n whys.Grammar)
   false_pair_row r n runs more bad ls = pair_row_fails r n (lines.PairRow runs) ls (ap (λ k. take_pair_rows v k n (lines.PairRow runs ∷ ls)) left ∙ ap (λ b. if b then behind (λ rs. values_of runs ∷ rs) (take_pair_rows v (length t.atoms - (r.next + 1)) (n + 1) ls) else faulted n whys.Grammar) (subst (λ k. is_row v k runs ≡ false) left bad))
@@ -126,10 +114,10 @@ module _ (t : TaskShape) (v : Version) where
   -- the head of the pair table
   pub begin_pairs : (aim : Aim) (r : PairRows) (n : ℕ) → r.aim ≡ aim → r.head ≡ n → r.next ≡ 0 → (ls : List CertLine) (x : Outcome (Unit {0})) → Left t v (sections.PairRows r) (n + 1) ls x → Left t v (sections.Pairs aim) n (lines.Pairs ∷ ls) x
   begin_pairs aim r n same head none ls x (y, (z, e, h), rest) = (
-      y,
-      (z, e ∙ ap (λ k. take_pair_rows v k (n + 1) ls) (let all : length t.atoms - r.next ≡ length t.atoms = omega (arith, none) in all), judged z h),
-      subst (λ a. After (BehindPairs t v a) y x) same rest,
-    )
+    y,
+    (z, e ∙ ap (λ k. take_pair_rows v k (n + 1) ls) (let all : length t.atoms - r.next ≡ length t.atoms = omega (arith, none) in all), judged z h),
+    subst (λ a. After (BehindPairs t v a) y x) same rest,
+  )
     where
       judged : (z : Outcome (List (List Span))) → After (λ rs. JudgesPairs t r.head (first_pair_rows r.pairs r.next ++ rs)) z y → After (JudgesPairs t n) z y
       judged (went rs end m) k = subst (λ i. JudgesPairs t i rs m end y) head (subst (λ i. JudgesPairs t r.head (first_pair_rows r.pairs i ++ rs) m end y) none k)
@@ -140,19 +128,7 @@ module _ (t : TaskShape) (v : Version) where
     where
       other : (l : CertLine) → l ≢ lines.Pairs → take_pairs v (length t.atoms) n (l ∷ ls) ≡ faulted n whys.Grammar
       other lines.Pairs h = absurd (h refl)
-      other (lines.PairRow runs) h = refl
-      other (lines.DistRow runs) h = refl
-      other (lines.Node l) h = refl
-      other lines.Strange h = refl
-      other (lines.First w) h = refl
-      other (lines.Claimed c) h = refl
-      other (lines.Sizes a b) h = refl
-      other (lines.Plan m) h = refl
-      other (lines.Item a b) h = refl
-      other lines.Dists h = refl
-      other (lines.Tree b) h = refl
-      other (lines.OpenTree b) h = refl
-      other lines.End h = refl
+      other _ h = refl
 
   -- no row of distances is left
   no_dist_left : (r : DistRows) (n : ℕ) (ls : List CertLine) → r.next ≡ length t.actions → went [] ls n ≡ take_dist_rows v (length t.atoms) (length t.actions - r.next) n ls
@@ -163,34 +139,34 @@ module _ (t : TaskShape) (v : Version) where
 
   pub good_dists : (r : DistRows) (n : ℕ) → AreDistRowsSoFar t r → r.next ≡ length t.actions → IsAdmissibleDists t r.pairs r.dists → (ls : List CertLine) (x : Outcome (Unit {0})) → ReadsTrees t r.trees (record { pairs = r.pairs; dists = r.dists }) n ls x → Left t v (sections.DistRows r) n ls x
   good_dists r n so all ok ls x h = (
-      went r.dists ls n,
-      (went [] ls n, no_dist_left r n ls all, (r.dists, record { whole = so.whole; fits = so.dists; same = all_dist_rows r so all }, inl (ok, refl))),
-      h,
-    )
+    went r.dists ls n,
+    (went [] ls n, no_dist_left r n ls all, (r.dists, record { whole = so.whole; fits = so.dists; same = all_dist_rows r so all }, inl (ok, refl))),
+    h,
+  )
 
   pub bad_dists : (r : DistRows) (n : ℕ) → AreDistRowsSoFar t r → r.next ≡ length t.actions → (f : DistFault) → IsDistFault t r.pairs r.dists f → (ls : List CertLine) → Left t v (sections.DistRows r) n ls (faulted (r.head + 1 + f.act) whys.Dist)
   bad_dists r n so all f fault ls = (
-      faulted (r.head + 1 + f.act) whys.Dist,
-      (went [] ls n, no_dist_left r n ls all, (r.dists, record { whole = so.whole; fits = so.dists; same = all_dist_rows r so all }, inr (f, fault, refl))),
-      refl,
-    )
+    faulted (r.head + 1 + f.act) whys.Dist,
+    (went [] ls n, no_dist_left r n ls all, (r.dists, record { whole = so.whole; fits = so.dists; same = all_dist_rows r so all }, inr (f, fault, refl))),
+    refl,
+  )
 
   -- a row of distances is read
   pub take_dist_row : (old new : DistRows) (n : ℕ) (runs : List Run) → new.trees ≡ old.trees → new.head ≡ old.head → new.pairs ≡ old.pairs → new.next ≡ old.next + 1 → old.next < length t.actions → is_row v (length t.atoms) runs ≡ true →
       first_dist_rows new.dists new.next ≡ first_dist_rows old.dists old.next ++ values_of runs ∷ [] →
       (ls : List CertLine) (x : Outcome (Unit {0})) → Left t v (sections.DistRows new) (n + 1) ls x → Left t v (sections.DistRows old) n (lines.DistRow runs ∷ ls) x
   take_dist_row old new n runs trees head pairs next more row rows ls x (y, reads, rest) = (
-      y,
-      read reads,
-      subst (λ h. After (λ d. ReadsTrees t old.trees (record { pairs = h; dists = d })) y x) pairs (subst (λ a. After (λ d. ReadsTrees t a (record { pairs = new.pairs; dists = d })) y x) trees rest),
-    )
+    y,
+    read reads,
+    subst (λ h. After (λ d. ReadsTrees t old.trees (record { pairs = h; dists = d })) y x) pairs (subst (λ a. After (λ d. ReadsTrees t a (record { pairs = new.pairs; dists = d })) y x) trees rest),
+  )
     where
       judged : (z : Outcome (List (List Span))) → After (λ rs. JudgesDists t new.pairs new.head (first_dist_rows new.dists new.next ++ rs)) z y →
           After (λ rs. JudgesDists t old.pairs old.head (first_dist_rows old.dists old.next ++ rs)) (behind (λ rs. values_of runs ∷ rs) z) y
       judged (went rs rest m) h =
           subst (λ p. JudgesDists t p old.head (first_dist_rows old.dists old.next ++ (values_of runs ∷ rs)) m rest y) pairs
           (subst (λ k. JudgesDists t new.pairs k (first_dist_rows old.dists old.next ++ (values_of runs ∷ rs)) m rest y) head
-              (subst (λ (all : List (List Span)). JudgesDists t new.pairs new.head all m rest y) (ap (λ z. z ++ rs) rows ∙ append_assoc (first_dist_rows old.dists old.next) (values_of runs ∷ []) rs) h))
+          (subst (λ (all : List (List Span)). JudgesDists t new.pairs new.head all m rest y) (ap (λ z. z ++ rs) rows ∙ append_assoc (first_dist_rows old.dists old.next) (values_of runs ∷ []) rs) h))
       judged (faulted line why) h = h
 
       left : length t.actions - old.next ≡ suc (length t.actions - new.next)
@@ -198,12 +174,12 @@ module _ (t : TaskShape) (v : Version) where
 
       read : ReadsDistRows t v new (n + 1) ls y → ReadsDistRows t v old n (lines.DistRow runs ∷ ls) y
       read (z, e, h) = (
-          behind (λ rs. values_of runs ∷ rs) z,
-          ap (behind (λ rs. values_of runs ∷ rs)) e
-          ∙ sym (ap (λ b. if b then behind (λ rs. values_of runs ∷ rs) (take_dist_rows v (length t.atoms) (length t.actions - new.next) (n + 1) ls) else faulted n whys.Grammar) row)
-          ∙ sym (ap (λ k. take_dist_rows v (length t.atoms) k n (lines.DistRow runs ∷ ls)) left),
-          judged z h,
-        )
+        behind (λ rs. values_of runs ∷ rs) z,
+        ap (behind (λ rs. values_of runs ∷ rs)) e
+            ∙ sym (ap (λ b. if b then behind (λ rs. values_of runs ∷ rs) (take_dist_rows v (length t.atoms) (length t.actions - new.next) (n + 1) ls) else faulted n whys.Grammar) row)
+            ∙ sym (ap (λ k. take_dist_rows v (length t.atoms) k n (lines.DistRow runs ∷ ls)) left),
+        judged z h,
+      )
 
   -- a line that is no row of distances
   dist_row_fails : (r : DistRows) (n : ℕ) (line : CertLine) (ls : List CertLine) → take_dist_rows v (length t.atoms) (length t.actions - r.next) n (line ∷ ls) ≡ faulted n whys.Grammar → Left t v (sections.DistRows r) n (line ∷ ls) (faulted n whys.Grammar)
@@ -217,34 +193,22 @@ module _ (t : TaskShape) (v : Version) where
     where
       other : (k : ℕ) (l : CertLine) → ((runs : List Run) → l ≢ lines.DistRow runs) → take_dist_rows v (length t.atoms) (suc k) n (l ∷ ls) ≡ faulted n whys.Grammar
       other k (lines.DistRow runs) h = absurd (h runs refl)
-      other k (lines.PairRow runs) h = refl
-      other k (lines.Node l) h = refl
-      other k lines.Strange h = refl
-      other k (lines.First w) h = refl
-      other k (lines.Claimed c) h = refl
-      other k (lines.Sizes a b) h = refl
-      other k (lines.Plan m) h = refl
-      other k (lines.Item a b) h = refl
-      other k lines.Pairs h = refl
-      other k lines.Dists h = refl
-      other k (lines.Tree b) h = refl
-      other k (lines.OpenTree b) h = refl
-      other k lines.End h = refl
+      other k _ h = refl
 
   pub false_dist_row : (r : DistRows) (n : ℕ) (runs : List Run) → r.next < length t.actions → is_row v (length t.atoms) runs ≡ false → (ls : List CertLine) → Left t v (sections.DistRows r) n (lines.DistRow runs ∷ ls) (faulted n whys.Grammar)
   false_dist_row r n runs more bad ls =
       dist_row_fails r n (lines.DistRow runs) ls (
-        ap (λ k. take_dist_rows v (length t.atoms) k n (lines.DistRow runs ∷ ls)) (one_dist_more r more)
-        ∙ ap (λ b. if b then behind (λ rs. values_of runs ∷ rs) (take_dist_rows v (length t.atoms) (length t.actions - (r.next + 1)) (n + 1) ls) else faulted n whys.Grammar) bad
-        )
+      ap (λ k. take_dist_rows v (length t.atoms) k n (lines.DistRow runs ∷ ls)) (one_dist_more r more)
+      ∙ ap (λ b. if b then behind (λ rs. values_of runs ∷ rs) (take_dist_rows v (length t.atoms) (length t.actions - (r.next + 1)) (n + 1) ls) else faulted n whys.Grammar) bad
+      )
 
   -- the head of the distance table
   pub begin_dists : (trees : Trees) (h : PairShape) (r : DistRows) (n : ℕ) → r.trees ≡ trees → r.pairs ≡ h → r.head ≡ n → r.next ≡ 0 → (ls : List CertLine) (x : Outcome (Unit {0})) → Left t v (sections.DistRows r) (n + 1) ls x → Left t v (sections.Dists trees h) n (lines.Dists ∷ ls) x
   begin_dists trees h r n same over head none ls x (y, (z, e, k), rest) = (
-      y,
-      (z, e ∙ ap (λ i. take_dist_rows v (length t.atoms) i (n + 1) ls) (let all : length t.actions - r.next ≡ length t.actions = omega (arith, none) in all), judged z k),
-      subst (λ p. After (λ d. ReadsTrees t trees (record { pairs = p; dists = d })) y x) over (subst (λ a. After (λ d. ReadsTrees t a (record { pairs = r.pairs; dists = d })) y x) same rest),
-    )
+    y,
+    (z, e ∙ ap (λ i. take_dist_rows v (length t.atoms) i (n + 1) ls) (let all : length t.actions - r.next ≡ length t.actions = omega (arith, none) in all), judged z k),
+    subst (λ p. After (λ d. ReadsTrees t trees (record { pairs = p; dists = d })) y x) over (subst (λ a. After (λ d. ReadsTrees t a (record { pairs = r.pairs; dists = d })) y x) same rest),
+  )
     where
       judged : (z : Outcome (List (List Span))) → After (λ rs. JudgesDists t r.pairs r.head (first_dist_rows r.dists r.next ++ rs)) z y → After (JudgesDists t h n) z y
       judged (went rs end m) k =
@@ -256,16 +220,4 @@ module _ (t : TaskShape) (v : Version) where
     where
       other : (l : CertLine) → l ≢ lines.Dists → take_dists v (length t.atoms) (length t.actions) n (l ∷ ls) ≡ faulted n whys.Grammar
       other lines.Dists h = absurd (h refl)
-      other lines.Pairs h = refl
-      other (lines.PairRow runs) h = refl
-      other (lines.DistRow runs) h = refl
-      other (lines.Node l) h = refl
-      other lines.Strange h = refl
-      other (lines.First w) h = refl
-      other (lines.Claimed c) h = refl
-      other (lines.Sizes a b) h = refl
-      other (lines.Plan m) h = refl
-      other (lines.Item a b) h = refl
-      other (lines.Tree b) h = refl
-      other (lines.OpenTree b) h = refl
-      other lines.End h = refl
+      other _ h = refl

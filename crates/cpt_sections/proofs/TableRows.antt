@@ -1,9 +1,8 @@
 -- a table into which a row is put
-use Rattle.std.proofs.Common.{◌≡◌, ℕ, zero, suc, ◌+◌, ◌-◌, ◌<◌, ◌≤◌, ◌==◌, true, List, [], ◌∷◌, ◌++◌, length, map, All, get_or, inl, inr, refl, sym, ap, subst, ◌∙◌, arith}
+use Rattle.std.proofs.Common.{◌≡◌, ℕ, zero, suc, ◌+◌, ◌-◌, ◌<◌, ◌≤◌, ◌==◌, true, List, [], ◌∷◌, ◌++◌, length, map, get_or, refl, ap, ◌∙◌, arith}
 use Rattle.std.specs.List.{range_with_len}
 use Rattle.std.proofs.lemmas.Bool.{and_parts, eqb-true}
 use Rattle.std.proofs.lemmas.List.{same_lists, get_or_default}
-use Rattle.std.proofs.lemmas.List.Elements.{All-nil}
 use Rattle.std.proofs.lemmas.List.FromFn.{get_or-map-range_with_len, length-map-range_with_len, map-range_with_len_more}
 use Rattle.cpt_task.specs.declared.span.Span.{Span}
 use Rattle.cpt_task.specs.declared.span.Span.TheVariants.{Never}
@@ -11,13 +10,10 @@ use Rattle.cpt_task.specs.Shape.{TaskShape}
 use Rattle.cpt_tables.specs.Shapes.{PairShape, DistShape, FitsPairs, FitsDists, pair_at, dist_at}
 use Rattle.cpt_cert.specs.declared.forms.Version.{Version}
 use Rattle.cpt_cert.specs.declared.forms.Run.{Run}
-use Rattle.cpt_cert.specs.declared.forms.CertLine.{CertLine}
-use Rattle.cpt_cert.specs.declared.forms.CertLine.TheVariants as lines
-use Rattle.cpt_cert.specs.Forms.{IsRun, IsWritten, IsReadAs, capped_line}
 use Rattle.cpt_cert.specs.Text.{pair_row, dist_row}
 use Rattle.cpt_verdict.specs.Reading.{values_of, is_form, is_row}
 use Rattle.cpt_walk.specs.Puts.{PutsPairs, PutsDists}
-use Rattle.cpt_sections.specs.Sections.{first_pair_rows, first_dist_rows, IsLine}
+use Rattle.cpt_sections.specs.Sections.{first_pair_rows, first_dist_rows}
 
 -- what agrees on a range has the same values there
 pub same_map : {X : Type 0} (f g : ℕ → X) (a n : ℕ) → ((i : ℕ) → a ≤ i → i < a + n → f i ≡ g i) → map f (range_with_len a n) ≡ map g (range_with_len a n)
@@ -81,38 +77,3 @@ dists_fit t old new k q vs fits puts = record { actions = puts.actions ∙ fits.
 -- so many values does a row have
 pub row_count : (v : Version) (k : ℕ) (runs : List Run) → is_row v k runs ≡ true → length (values_of runs) ≡ k
 row_count v k runs h = eqb-true (length (values_of runs)) k (and_parts (is_form v runs) (length (values_of runs) == k) h).1
-
--- the runs of the row, where the line is one
-abbrev runs_on : CertLine → List Run
-runs_on (lines.PairRow runs) = runs
-runs_on (lines.DistRow runs) = runs
-runs_on _ = []
-
-written_runs : (line : CertLine) → IsWritten line → All IsRun (runs_on (capped_line line))
-written_runs (lines.PairRow runs) h = h.all
-written_runs (lines.DistRow runs) h = h.all
-written_runs (lines.Node l) h = All-nil IsRun
-written_runs lines.Strange h = All-nil IsRun
-written_runs (lines.First v) h = All-nil IsRun
-written_runs (lines.Claimed c) h = All-nil IsRun
-written_runs (lines.Sizes a b) h = All-nil IsRun
-written_runs (lines.Plan k) h = All-nil IsRun
-written_runs (lines.Item a b) h = All-nil IsRun
-written_runs lines.Pairs h = All-nil IsRun
-written_runs lines.Dists h = All-nil IsRun
-written_runs (lines.Tree b) h = All-nil IsRun
-written_runs (lines.OpenTree b) h = All-nil IsRun
-written_runs lines.End h = All-nil IsRun
-
-line_runs : (line : CertLine) → IsLine line → All IsRun (runs_on line)
-line_runs line (bytes, h) = go h
-  where
-    go : IsReadAs bytes line → All IsRun (runs_on line)
-    go (inl (l, spells, e)) = subst (λ z. All IsRun (runs_on z)) (sym e) (written_runs l spells.written)
-    go (inr (e, none)) = subst (λ z. All IsRun (runs_on z)) (sym e) (All-nil IsRun)
-
-pub pair_runs : (line : CertLine) (runs : List Run) → IsLine line → line ≡ lines.PairRow runs → All IsRun runs
-pair_runs line runs h e = subst (λ z. All IsRun (runs_on z)) e (line_runs line h)
-
-pub dist_runs : (line : CertLine) (runs : List Run) → IsLine line → line ≡ lines.DistRow runs → All IsRun runs
-dist_runs line runs h e = subst (λ z. All IsRun (runs_on z)) e (line_runs line h)

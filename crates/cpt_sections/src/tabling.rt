@@ -1,12 +1,11 @@
 //! The tables of a certificate, row by row.
 
-ghost use Rattle.std.specs.Prelude.{◌≡◌, ◌+◌, ℕ, ◌<◌, ◌≤◌, ◌^◌, length, All, IfOk};
-ghost use Rattle.cpt_tables.specs.Shapes.{FitsPairs, FitsDists, IsWholePairs, IsWholeDists};
-ghost use Rattle.cpt_tables.specs.Admissible.{IsAdmissiblePairs};
+ghost use Rattle.std.specs.Prelude.{◌≡◌, ◌≢◌, ◌+◌, ℕ, ◌<◌, ◌≤◌, ◌^◌, length, All, IfOk, MatchBool};
+ghost use Rattle.cpt_tables.specs.Shapes.{FitsPairs, FitsDists, IsWholePairs, IsWholeDists, set_span_of};
 ghost use Rattle.cpt_cert.specs.Forms.{IsRun};
 ghost use Rattle.cpt_verdict.specs.Reading.{values_of};
 ghost use Rattle.cpt_walk.specs.Puts.{PutsPairs, PutsDists};
-ghost use Rattle.cpt_sections.specs.Sections.{Left, IsSection, IsAim, IsLine, Moves, BehindPairs};
+ghost use Rattle.cpt_sections.specs.Sections.{Left, BehindPairs, IsAim, IsSection, IsLine, Moves};
 ghost use Rattle.cpt_sections.specs.Proceeding.{Proceeds, ArePairRowsSoFar, AreDistRowsSoFar};
 
 use crate::section::{Aim, DistRows, Next, PairRows, Section, Trees};
@@ -17,18 +16,27 @@ use cpt_verdict::Why;
 use cpt_walk::{is_row, put_dist_row, put_pair_row};
 use std::alloc::Global;
 
+/// The goal can never hold.
+fn is_hopeless(task: &Task, pairs: &PairTable) -> bool
+    requires fits { FitsPairs task.now pairs.now }
+    ensures { MatchBool result (set_span_of pairs.now task.now.goal ≡ Span.Never) (set_span_of pairs.now task.now.goal ≢ Span.Never) }
+{
+    let _atoms = task.atoms();
+    set_span(pairs, task.goal()) == Span::Never
+}
+
 /// Behind an admissible pair table, where the goal is never to hold.
 fn judge_goal(task: &Task, pairs: &PairTable) -> Next
     requires fits { FitsPairs task.now pairs.now }
     ensures { (v : Version) (n : ℕ) → 2 < n → Proceeds task.now v (BehindPairs task.now v Aim.Goal pairs.now) n result }
 {
-    let _atoms = task.atoms();
-    match set_span(pairs, task.goal()) {
-        Span::Never => Next::On(Section::End),
-        Span::At(_) => Next::Fault {
+    if is_hopeless(task, pairs) {
+        Next::On(Section::End)
+    } else {
+        Next::Fault {
             line: 2,
             why: Why::Goal,
-        },
+        }
     }
 }
 
@@ -51,7 +59,10 @@ fn judge_pairs(task: &Task, rows: PairRows) -> Next
     ensures { (v : Version) → Proceeds task.now v (Left task.now v (Section.PairRows rows)) (rows.head + 1 + rows.next) result }
 {
     let PairRows {
-        aim, head, pairs, ..
+        aim,
+        head,
+        pairs,
+        ..
     } = rows;
     match admissible_pairs(task, &pairs) {
         None => leave_pairs(task, aim, pairs),

@@ -1,4 +1,4 @@
-use Rattle.std.proofs.Common.{◌≡◌, ℕ, ◌+◌, ◌<◌, length, sym, ap, subst, ◌∙◌, arith}
+use Rattle.std.proofs.Common.{◌+◌, sym, subst, arith}
 use Rattle.cpt_verdict.specs.declared.faults.Why.TheVariants as whys
 use Rattle.cpt_verdict.specs.Reading.Outcome.{faulted}
 use Rattle.cpt_sections.specs.declared.section.Section.TheVariants as sections
@@ -19,8 +19,7 @@ returns-in-Some c = λ v.
     let fault = c.in-Some.ensures.answer in
     let lt = fault.action in
     let all = c.requires.all in
-    let same = c.from.ensures in
-    (
+    let same = c.from.ensures in (
       omega (arith, lt, all, same),
       λ ls. subst (λ p. Left c.args.task.now v (sections.DistRows r) n ls (faulted (r.head + 1 + p) whys.Dist)) (sym same) (bad_dists c.args.task.now v r n c.requires.rows all c.in-Some.fault fault ls),
     )

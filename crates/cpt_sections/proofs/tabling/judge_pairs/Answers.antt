@@ -1,4 +1,4 @@
-use Rattle.std.proofs.Common.{◌≡◌, ℕ, ◌+◌, ◌<◌, length, sym, ap, subst, ◌∙◌, arith}
+use Rattle.std.proofs.Common.{◌+◌, sym, subst, arith}
 use Rattle.cpt_verdict.specs.declared.faults.Why.TheVariants as whys
 use Rattle.cpt_verdict.specs.Reading.Outcome.{faulted}
 use Rattle.cpt_sections.specs.declared.section.Section.TheVariants as sections
@@ -22,8 +22,7 @@ returns-in-Some c = λ v.
     let le = fault.ordered in
     let lt = fault.within in
     let all = c.requires.all in
-    let same = c.from.ensures in
-    (
+    let same = c.from.ensures in (
       omega (arith, le, lt, all, same),
       λ ls. subst (λ p. Left c.args.task.now v (sections.PairRows r) n ls (faulted (r.head + 1 + p) whys.Pair)) (sym same) (bad_pairs c.args.task.now v r n c.requires.rows all c.in-Some.fault fault ls),
     )

@@ -1,4 +1,4 @@
-use Rattle.std.proofs.Common.{sym, refl, ap, ◌∙◌, arith, ℕ, ◌≡◌, ◌+◌, ◌-◌, ◌≤◌, length, subst, true, false}
+use Rattle.std.proofs.Common.{sym, ap, ◌∙◌, arith, ◌≡◌, ◌-◌, length, subst, true, false}
 use Rattle.cpt_cert.specs.declared.forms.CertLine.TheVariants as lines
 use Rattle.cpt_verdict.specs.Reading.{is_row, values_of}
 use Rattle.cpt_sections.specs.declared.section.PairRows.{PairRows}
