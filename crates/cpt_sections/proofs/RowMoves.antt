@@ -78,19 +78,15 @@ module _ (t : TaskShape) (v : Version) where
           (subst (λ (all : List (List Span)). JudgesPairs t new.head all m rest y) (ap (λ z. z ++ rs) rows ∙ append_assoc (first_pair_rows old.pairs old.next) (values_of runs ∷ []) rs) h)
       judged (faulted line why) h = h
 
-      taken : (k : ℕ) → length t.atoms - old.next ≡ suc k → length t.atoms - new.next ≡ k → is_row v (suc k) runs ≡ true → behind (λ rs. values_of runs ∷ rs) (take_pair_rows v (length t.atoms - new.next) (n + 1) ls) ≡ take_pair_rows v (length t.atoms - old.next) n (lines.PairRow runs ∷ ls)
-      taken k e f is =
-          ap (λ z. behind (λ rs. values_of runs ∷ rs) (take_pair_rows v z (n + 1) ls)) f
-          ∙ sym (ap (λ b. if b then behind (λ rs. values_of runs ∷ rs) (take_pair_rows v k (n + 1) ls) else faulted n whys.Grammar) is)
-          ∙ sym (ap (λ z. take_pair_rows v z n (lines.PairRow runs ∷ ls)) e)
-
       left : length t.atoms - old.next ≡ suc (length t.atoms - new.next)
       left = omega (arith, next, more)
 
       read : ReadsPairRows t v new (n + 1) ls y → ReadsPairRows t v old n (lines.PairRow runs ∷ ls) y
       read (z, e, h) = (
         behind (λ rs. values_of runs ∷ rs) z,
-        ap (behind (λ rs. values_of runs ∷ rs)) e ∙ taken (length t.atoms - new.next) left refl (subst (λ k. is_row v k runs ≡ true) left row),
+        ap (behind (λ rs. values_of runs ∷ rs)) e
+            ∙ sym (ap (λ b. if b then behind (λ rs. values_of runs ∷ rs) (take_pair_rows v (length t.atoms - new.next) (n + 1) ls) else faulted n whys.Grammar) (subst (λ k. is_row v k runs ≡ true) left row))
+            ∙ sym (ap (λ k. take_pair_rows v k n (lines.PairRow runs ∷ ls)) left),
         judged z h,
       )
 
@@ -98,18 +94,22 @@ module _ (t : TaskShape) (v : Version) where
   pair_row_fails : (r : PairRows) (n : ℕ) (line : CertLine) (ls : List CertLine) → take_pair_rows v (length t.atoms - r.next) n (line ∷ ls) ≡ faulted n whys.Grammar → Left t v (sections.PairRows r) n (line ∷ ls) (faulted n whys.Grammar)
   pair_row_fails r n line ls e = (faulted n whys.Grammar, (faulted n whys.Grammar, sym e, refl), refl)
 
+  one_pair_more : (r : PairRows) → r.next < length t.atoms → length t.atoms - r.next ≡ suc (length t.atoms - (r.next + 1))
+  one_pair_more r more = omega (arith, more)
+
   pub strange_pair_row : (r : PairRows) (n : ℕ) (line : CertLine) → r.next < length t.atoms → ((runs : List Run) → line ≢ lines.PairRow runs) → (ls : List CertLine) → Left t v (sections.PairRows r) n (line ∷ ls) (faulted n whys.Grammar)
-  strange_pair_row r n line more ne ls = pair_row_fails r n line ls (let left : length t.atoms - r.next ≡ suc (length t.atoms - (r.next + 1)) = omega (arith, more) in ap (λ k. take_pair_rows v k n (line ∷ ls)) left ∙ other (length t.atoms - (r.next + 1)) line ne)
+  strange_pair_row r n line more ne ls = pair_row_fails r n line ls (ap (λ k. take_pair_rows v k n (line ∷ ls)) (one_pair_more r more) ∙ other (length t.atoms - (r.next + 1)) line ne)
     where
       other : (k : ℕ) (l : CertLine) → ((runs : List Run) → l ≢ lines.PairRow runs) → take_pair_rows v (suc k) n (l ∷ ls) ≡ faulted n whys.Grammar
       other k (lines.PairRow runs) h = absurd (h runs refl)
       other k _ h = refl
 
   pub false_pair_row : (r : PairRows) (n : ℕ) (runs : List Run) → r.next < length t.atoms → is_row v (length t.atoms - r.next) runs ≡ false → (ls : List CertLine) → Left t v (sections.PairRows r) n (lines.PairRow runs ∷ ls) (faulted n whys.Grammar)
-  false_pair_row r n runs more bad ls = pair_row_fails r n (lines.PairRow runs) ls (ap (λ k. take_pair_rows v k n (lines.PairRow runs ∷ ls)) left ∙ ap (λ b. if b then behind (λ rs. values_of runs ∷ rs) (take_pair_rows v (length t.atoms - (r.next + 1)) (n + 1) ls) else faulted n whys.Grammar) (subst (λ k. is_row v k runs ≡ false) left bad))
-    where
-      left : length t.atoms - r.next ≡ suc (length t.atoms - (r.next + 1))
-      left = omega (arith, more)
+  false_pair_row r n runs more bad ls =
+      pair_row_fails r n (lines.PairRow runs) ls (
+      ap (λ k. take_pair_rows v k n (lines.PairRow runs ∷ ls)) (one_pair_more r more)
+      ∙ ap (λ b. if b then behind (λ rs. values_of runs ∷ rs) (take_pair_rows v (length t.atoms - (r.next + 1)) (n + 1) ls) else faulted n whys.Grammar) (subst (λ k. is_row v k runs ≡ false) (one_pair_more r more) bad)
+      )
 
   -- the head of the pair table
   pub begin_pairs : (aim : Aim) (r : PairRows) (n : ℕ) → r.aim ≡ aim → r.head ≡ n → r.next ≡ 0 → (ls : List CertLine) (x : Outcome (Unit {0})) → Left t v (sections.PairRows r) (n + 1) ls x → Left t v (sections.Pairs aim) n (lines.Pairs ∷ ls) x
