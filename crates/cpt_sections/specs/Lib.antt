@@ -1,3 +1,4 @@
 pub mod Behind
+pub mod Proceeding
 pub mod Sections
 pub mod Stages

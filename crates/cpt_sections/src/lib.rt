@@ -3,5 +3,6 @@
 
 mod section;
 mod treeing;
+mod tabling;
 
 pub use section::{Aim, DistRows, Items, Next, PairRows, Section, Stage, Trees, Turned};
