@@ -27,9 +27,9 @@ LeftOf t (stages.Within v claim s) n ls o = Then (Left t v s) (λ _ n ls o. o �
 -- what is still to be read from line n on is formed
 abbrev pub IsStage : TaskShape → ℕ → Stage → Type 0
 IsStage t n stages.First = Unit {0}
-IsStage t n (stages.Claimed v) = Unit {0}
-IsStage t n (stages.Sized v claim) = IsClaim claim
-IsStage t n (stages.Within v claim s) = IsSection t n s
+IsStage t n (stages.Claimed v) = 1 ≤ n
+IsStage t n (stages.Sized v claim) = (2 ≤ n) × IsClaim claim
+IsStage t n (stages.Within v claim s) = (2 ≤ n) × IsSection t n s
 
 -- the version that the first line names
 abbrev pub version_in : List CertLine → Option Version

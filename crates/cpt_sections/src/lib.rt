@@ -2,7 +2,7 @@
 #![tactic(auto)]
 
 mod section;
-mod treeing;
 mod tabling;
+mod treeing;
 
 pub use section::{Aim, DistRows, Items, Next, PairRows, Section, Stage, Trees, Turned};
