@@ -1,5 +1,5 @@
 use Rattle.std.proofs.Common.{◌∙◌, sym}
-use Rattle.cpt_sections.proofs.PlanLines.{stray_item, not_in_turn, item_moves}
+use Rattle.cpt_sections.proofs.PlanLines.{rest_may_end, stray_item, not_in_turn, item_moves}
 use Rattle.cpt_sections.proofs.planning.at_item.Goals as goal
 use Rattle.cpt_sections.proofs.planning.at_item.Goals.{in_default-via-in-Item+else-is_in_turn, in_default-via-in_default}
 
@@ -19,3 +19,7 @@ returns-in_default c v =
       | in_default-via-in_default w ↦
           stray_item c.args.task.now v c.args.items c.args.line_number c.args.line.now some (λ start act e. absurd (w.in_default.not-Item start act e))
     ]
+
+pub at_items-requires : goal.at_items-requires
+at_items-requires c =
+    rest_may_end c.args.task.now c.args.line_number c.args.items (record { act = c.in-Item.act; start = c.in-Item.start }) c.in_ok-items-in-Item.items c.requires.section c.in_ok-items-in-Item.ensures
