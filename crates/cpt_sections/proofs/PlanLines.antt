@@ -1,5 +1,5 @@
 -- what the lines of a plan lead to
-use Rattle.std.proofs.Common.{◌≡◌, ℕ, zero, suc, ◌+◌, ◌-◌, ◌<◌, ◌≤◌, ◌^◌, Bool, true, false, cond, List, [], ◌∷◌, ◌++◌, length, All, Option, Some, None, Vec, inl, inr, refl, sym, ap, ◌∙◌, subst, arith, append_assoc, append-nil, length-append}
+use Rattle.std.proofs.Common.{◌≡◌, ℕ, zero, suc, ◌+◌, ◌-◌, ◌<◌, ◌≤◌, ◌^◌, true, false, cond, List, [], ◌∷◌, ◌++◌, length, All, Option, Some, None, Vec, inl, inr, refl, sym, ap, ◌∙◌, subst, arith, append_assoc, append-nil, length-append}
 use Rattle.std.specs.Prelude.{IfSome, Result, Ok, Err, IfOk}
 use Rattle.std.specs.Global.{Global}
 use Rattle.std.proofs.lemmas.Bool.{ne_eqb}
@@ -7,12 +7,11 @@ use Rattle.std.proofs.lemmas.List.Elements.{All-head, All-tail, All-nil, All-pus
 use Rattle.cpt_task.specs.declared.memory.Memory.{Memory}
 use Rattle.cpt_task.specs.declared.plan.Occ.{Occ}
 use Rattle.cpt_task.specs.Shape.{TaskShape}
-use Rattle.cpt_task.specs.Timeline.{IsOccurrence, IsPlan, makespan, end_of}
+use Rattle.cpt_task.specs.Timeline.{IsOccurrence, IsPlan, makespan}
 use Rattle.cpt_cert.specs.declared.forms.Version.{Version}
 use Rattle.cpt_cert.specs.declared.forms.CertLine.{CertLine}
 use Rattle.cpt_cert.specs.declared.forms.CertLine.TheVariants as lines
-use Rattle.cpt_cert.specs.Forms.{IsWritten, Spells, capped_line}
-use Rattle.cpt_verdict.specs.declared.faults.Why.{Why}
+use Rattle.cpt_cert.specs.Forms.{IsWritten, capped_line}
 use Rattle.cpt_verdict.specs.declared.faults.Why.TheVariants as whys
 use Rattle.cpt_verdict.specs.Accepting.{IsPlanOf, is_no_sooner}
 use Rattle.cpt_verdict.specs.Reading.{Outcome, After, behind, take_plan, take_items, JudgesPlan}
@@ -25,7 +24,7 @@ use Rattle.cpt_sections.specs.declared.section.Section.TheVariants as sections
 use Rattle.cpt_sections.specs.declared.section.Next.{Next}
 use Rattle.cpt_sections.specs.declared.section.Next.TheVariants as nexts
 use Rattle.cpt_sections.specs.Sections.{Left, IsSection, AreItems, IsLine, Moves, JudgesItems, BehindPlan}
-use Rattle.cpt_sections.specs.Plans.{CanStand, IsKept, KeepsAlso, after_plan, IsPlanIn, EndsPlan, MayEnd, IsFirstItems, TakesItem, Comes}
+use Rattle.cpt_sections.specs.Plans.{CanStand, KeepsAlso, after_plan, IsPlanIn, EndsPlan, MayEnd, IsFirstItems, TakesItem, Comes}
 
 -- a line that is read as the head of a plan has a number of 32 bits
 pub few_items : (k : ℕ) → IsLine (lines.Plan k) → k < 2 ^ 32
@@ -84,9 +83,10 @@ module _ (t : TaskShape) where
       IfSome old (λ p. (length p.items + suc k < 2 ^ 32) × All (CanStand t m) p.items) → IfSome new (λ p. (length p.items + k < 2 ^ 32) × All (CanStand t m) p.items)
   stays_listed m k o old None keeps h = tt
   stays_listed m k o None (Some q) keeps h = absurd keeps
-  stays_listed m k o (Some p) (Some q) keeps h =
-      ((let e : length q.items ≡ length p.items + 1 = ap length keeps.1 ∙ length-append p.items (o ∷ []) in let few = h.0 in omega (arith, e, few)),
-      subst (All (CanStand t m)) (sym keeps.1) (All-push (CanStand t m) p.items o h.1 keeps.0))
+  stays_listed m k o (Some p) (Some q) keeps h = (
+    (let e : length q.items ≡ length p.items + 1 = ap length keeps.1 ∙ length-append p.items (o ∷ []) in let few = h.0 in omega (arith, e, few)),
+    subst (All (CanStand t m)) (sym keeps.1) (All-push (CanStand t m) p.items o h.1 keeps.0),
+  )
 
   suc_of : (n : ℕ) → 1 ≤ n → n ≡ suc (n - 1)
   suc_of n h = omega arith
@@ -105,8 +105,9 @@ module _ (t : TaskShape) where
     makespan = short;
     few = few;
     listed = (
-        (let e : length plan.items ≡ 0 = ap length none in omega (arith, e, few)),
-        subst (All (CanStand t m)) (sym none) (All-nil (CanStand t m)));
+      (let e : length plan.items ≡ 0 = ap length none in omega (arith, e, few)),
+      subst (All (CanStand t m)) (sym none) (All-nil (CanStand t m)),
+    );
   })
 
   -- the plan is judged behind its last line
@@ -153,6 +154,7 @@ module _ (t : TaskShape) where
         judges : (x y : Outcome (List Occ)) → After (JudgesItems t m n (Some plan)) x y → After (JudgesPlan t m n) x y
         judges (went os r line) y h = subst (λ z. JudgesPlan t m n (z ++ os) line r y) none h
         judges (faulted line why) y h = h
+
         go : Left t v (sections.Items (record { makespan = m; head = n; left = k; start = 0; act = 0; plan = Some plan })) (n + 1) ls x → Left t v (sections.Plan m) n (lines.Plan k ∷ ls) x
         go (y, (z, e, judged), after) = (y, (z, e, judges z y judged), after)
 
@@ -166,6 +168,7 @@ module _ (t : TaskShape) where
             ap (behind (λ os. o ∷ os)) h
             ∙ sym (ap (λ b. cond b (behind (λ os. o ∷ os) (take_items k o (n + 1) ls)) (faulted n whys.Grammar)) turn)
             ∙ sym (ap (λ c. take_items c (last_of i) n (lines.Item o.start o.act ∷ ls)) e)
+
         go : Left t v (sections.Items (record { makespan = i.makespan; head = i.head; left = i.left - 1; start = o.start; act = o.act; plan = j.plan })) (n + 1) ls x → Left t v (sections.Items i) n (lines.Item o.start o.act ∷ ls) x
         go (y, (z, e, judged), after) =
             (y, (behind (λ os. o ∷ os) z, taken (i.left - 1) (suc_of i.left some) z e, judges_more i.makespan i.head o i.plan j.plan takes.plan z y judged), after)
@@ -189,11 +192,14 @@ module _ (t : TaskShape) where
         (faulted i.head whys.Plan, (went [] ls n, none_taken i.left _ n ls none, bad_plan i.makespan i.head n ls i.plan bad), refl)
 
     pub plan_comes : (i : Items) (n : ℕ) (next : Next) → i.left ≡ 0 → MayEnd t i → EndsPlan t i.makespan i.head i.plan next → i.head < n → Comes t v (sections.Items i) n next
-    plan_comes i n (nexts.On new) none h ends below =
-        (subst (IsSection t n) (sym ends.1) (is_after i.makespan n h.makespan),
-        λ ls x left. judged_items i n none ends.0 ls x (left_after i.makespan n ls x (subst (λ z. Left t v z n ls x) ends.1 left)))
-    plan_comes i n (nexts.Fault at why) none h ends below = ((let same = ends.1 in omega (arith, same, below)),
-        λ ls. subst (λ z. Left t v (sections.Items i) n ls z) (sym (ap (λ k. faulted k why) ends.1 ∙ ap (faulted i.head) ends.2)) (bad_items i n none ends.0 ls))
+    plan_comes i n (nexts.On new) none h ends below = (
+      subst (IsSection t n) (sym ends.1) (is_after i.makespan n h.makespan),
+      λ ls x left. judged_items i n none ends.0 ls x (left_after i.makespan n ls x (subst (λ z. Left t v z n ls x) ends.1 left)),
+    )
+    plan_comes i n (nexts.Fault at why) none h ends below = (
+      (let same = ends.1 in omega (arith, same, below)),
+      λ ls. subst (λ z. Left t v (sections.Items i) n ls z) (sym (ap (λ k. faulted k why) ends.1 ∙ ap (faulted i.head) ends.2)) (bad_items i n none ends.0 ls),
+    )
 
   -- what the functions answer
   pub items_come : (i : Items) (r : Result Next Memory) → i.left ≡ 0 → MayEnd t i → IfOk r (EndsPlan t i.makespan i.head i.plan) →

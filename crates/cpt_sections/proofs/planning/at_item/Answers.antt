@@ -12,10 +12,10 @@ pub returns-in_default : goal.returns-in_default
 returns-in_default c v =
     let some = c.requires.section.some in
     elim c.in_default.branch [
-        in_default-via-in-Item+else-is_in_turn w ↦
+      | in_default-via-in-Item+else-is_in_turn w ↦
           stray_item c.args.task.now v c.args.items c.args.line_number c.args.line.now some (
-              not_in_turn c.args.items c.args.line.now w.in-Item.start w.in-Item.act w.in-Item.is (sym w.if-is_in_turn.false ∙ w.is_in_turn.ensures)
-              )
+          not_in_turn c.args.items c.args.line.now w.in-Item.start w.in-Item.act w.in-Item.is (sym w.if-is_in_turn.false ∙ w.is_in_turn.ensures)
+          )
       | in_default-via-in_default w ↦
           stray_item c.args.task.now v c.args.items c.args.line_number c.args.line.now some (λ start act e. absurd (w.in_default.not-Item start act e))
     ]
