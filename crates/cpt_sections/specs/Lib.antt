@@ -1,3 +1,4 @@
+pub mod Behind
 pub mod Plans
 pub mod Sections
 pub mod Stages
