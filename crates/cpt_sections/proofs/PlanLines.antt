@@ -24,7 +24,8 @@ use Rattle.cpt_sections.specs.declared.section.Section.TheVariants as sections
 use Rattle.cpt_sections.specs.declared.section.Next.{Next}
 use Rattle.cpt_sections.specs.declared.section.Next.TheVariants as nexts
 use Rattle.cpt_sections.specs.Sections.{Left, IsSection, AreItems, IsLine, Moves, JudgesItems, BehindPlan}
-use Rattle.cpt_sections.specs.Plans.{CanStand, KeepsAlso, after_plan, IsPlanIn, EndsPlan, MayEnd, IsFirstItems, TakesItem, Comes}
+use Rattle.cpt_sections.specs.Plans.{CanStand, KeepsAlso, after_plan, IsPlanIn, EndsPlan, MayEnd, IsFirstItems, TakesItem}
+use Rattle.cpt_sections.specs.Proceeding.{Proceeds}
 
 -- a line that is read as the head of a plan has a number of 32 bits
 pub few_items : (k : ℕ) → IsLine (lines.Plan k) → k < 2 ^ 32
@@ -142,7 +143,7 @@ module _ (t : TaskShape) where
 
     -- what comes from where lines are left comes of the line before
     pub comes_moves : (s old : Section) (n : ℕ) (line : CertLine) (next : Next) →
-        ((ls : List CertLine) (x : Outcome (Unit {0})) → Left t v s (n + 1) ls x → Left t v old n (line ∷ ls) x) → Comes t v s (n + 1) next → Moves t v old n line next
+        ((ls : List CertLine) (x : Outcome (Unit {0})) → Left t v s (n + 1) ls x → Left t v old n (line ∷ ls) x) → Proceeds t v (Left t v s) (n + 1) next → Moves t v old n line next
     comes_moves s old n line (nexts.On new) f h = (h.0, λ ls x left. f ls x (h.1 ls x left))
     comes_moves s old n line (nexts.Fault at why) f h = ((let below = h.0 in omega (arith, below)), λ ls. f ls (faulted at why) (h.1 ls))
 
@@ -191,7 +192,7 @@ module _ (t : TaskShape) where
     bad_items i n none bad ls =
         (faulted i.head whys.Plan, (went [] ls n, none_taken i.left _ n ls none, bad_plan i.makespan i.head n ls i.plan bad), refl)
 
-    pub plan_comes : (i : Items) (n : ℕ) (next : Next) → i.left ≡ 0 → MayEnd t i → EndsPlan t i.makespan i.head i.plan next → i.head < n → Comes t v (sections.Items i) n next
+    pub plan_comes : (i : Items) (n : ℕ) (next : Next) → i.left ≡ 0 → MayEnd t i → EndsPlan t i.makespan i.head i.plan next → i.head < n → Proceeds t v (Left t v (sections.Items i)) n next
     plan_comes i n (nexts.On new) none h ends below = (
       subst (IsSection t n) (sym ends.1) (is_after i.makespan n h.makespan),
       λ ls x left. judged_items i n none ends.0 ls x (left_after i.makespan n ls x (subst (λ z. Left t v z n ls x) ends.1 left)),
@@ -203,12 +204,12 @@ module _ (t : TaskShape) where
 
   -- what the functions answer
   pub items_come : (i : Items) (r : Result Next Memory) → i.left ≡ 0 → MayEnd t i → IfOk r (EndsPlan t i.makespan i.head i.plan) →
-      IfOk r (λ next. (v : Version) (n : ℕ) → i.head < n → Comes t v (sections.Items i) n next)
+      IfOk r (λ next. (v : Version) (n : ℕ) → i.head < n → Proceeds t v (Left t v (sections.Items i)) n next)
   items_come i (Err e) none h ends = tt
   items_come i (Ok next) none h ends = λ v n below. plan_comes v i n next none h ends below
 
   pub head_moves : (m n k : ℕ) (i : Items) (line : CertLine) (r : Result Next Memory) → line ≡ lines.Plan k → IsFirstItems m n k i →
-      IfOk r (λ next. (v : Version) (n : ℕ) → i.head < n → Comes t v (sections.Items i) n next) → IfOk r (λ next. (v : Version) → Moves t v (sections.Plan m) n line next)
+      IfOk r (λ next. (v : Version) (n : ℕ) → i.head < n → Proceeds t v (Left t v (sections.Items i)) n next) → IfOk r (λ next. (v : Version) → Moves t v (sections.Plan m) n line next)
   head_moves m n k i line (Err e) is first comes = tt
   head_moves m n k i line (Ok next) is first comes = λ v.
       let head : i.head ≡ n = ap (λ (z : Items). z.head) first.2 in
@@ -217,7 +218,7 @@ module _ (t : TaskShape) where
       (comes v (n + 1) (omega (arith, head)))
 
   pub item_moves : (n : ℕ) (i : Items) (o : Occ) (j : Items) (line : CertLine) (r : Result Next Memory) → line ≡ lines.Item o.start o.act → AreItems t n i → is_no_sooner (last_of i) o ≡ true → TakesItem t i o j →
-      IfOk r (λ next. (v : Version) (n : ℕ) → j.head < n → Comes t v (sections.Items j) n next) → IfOk r (λ next. (v : Version) → Moves t v (sections.Items i) n line next)
+      IfOk r (λ next. (v : Version) (n : ℕ) → j.head < n → Proceeds t v (Left t v (sections.Items j)) n next) → IfOk r (λ next. (v : Version) → Moves t v (sections.Items i) n line next)
   item_moves n i o j line (Err e) is formed turn takes comes = tt
   item_moves n i o j line (Ok next) is formed turn takes comes = λ v.
       let head : j.head ≡ i.head = ap (λ (z : Items). z.head) takes.rest in

@@ -1,14 +1,10 @@
-use Rattle.std.specs.Prelude.{◌≡◌, ℕ, ◌+◌, ◌-◌, ◌<◌, ◌≤◌, ◌^◌, ◌==◌, if◌then◌else◌, List, [], ◌∷◌, ◌++◌, length, All, Option, None, Some, Vec, IfSome}
+use Rattle.std.specs.Prelude.{◌≡◌, ℕ, ◌+◌, ◌-◌, ◌<◌, ◌≤◌, ◌^◌, ◌==◌, if◌then◌else◌, [], ◌∷◌, ◌++◌, length, All, Option, None, Some, Vec, IfSome}
 use Rattle.std.specs.Global.{Global}
 use Rattle.cpt_task.specs.declared.plan.Occ.{Occ}
 use Rattle.cpt_task.specs.Shape.{TaskShape}
 use Rattle.cpt_task.specs.Timeline.{IsOccurrence}
-use Rattle.cpt_cert.specs.declared.forms.Version.{Version}
-use Rattle.cpt_cert.specs.declared.forms.CertLine.{CertLine}
 use Rattle.cpt_verdict.specs.declared.faults.Why.TheVariants as whys
 use Rattle.cpt_verdict.specs.Accepting.{IsPlanOf}
-use Rattle.cpt_verdict.specs.Reading.{Outcome}
-use Rattle.cpt_verdict.specs.Reading.Outcome.{faulted}
 use Rattle.cpt_sections.specs.declared.section.Trees.TheVariants as trees
 use Rattle.cpt_sections.specs.declared.section.Aim.TheVariants as aims
 use Rattle.cpt_sections.specs.declared.section.Items.{Items}
@@ -16,7 +12,6 @@ use Rattle.cpt_sections.specs.declared.section.Section.{Section}
 use Rattle.cpt_sections.specs.declared.section.Section.TheVariants as sections
 use Rattle.cpt_sections.specs.declared.section.Next.{Next}
 use Rattle.cpt_sections.specs.declared.section.Next.TheVariants as nexts
-use Rattle.cpt_sections.specs.Sections.{Left, IsSection}
 
 -- an occurrence that can stand in a plan with this makespan
 abbrev pub CanStand : TaskShape → ℕ → Occ → Type 0
@@ -61,8 +56,3 @@ IsFirstItems m head k i = (plan : Vec Occ Global) × (plan.items ≡ []) × (i �
 pub record TakesItem (t : TaskShape) (old : Items) (o : Occ) (new : Items) : Type 0 where
   pub rest : new ≡ record { makespan = old.makespan; head = old.head; left = old.left - 1; start = o.start; act = o.act; plan = new.plan }
   pub plan : KeepsAlso t old.makespan o old.plan new.plan
-
--- what is read from line n on is the same, or it is known that this is the first fault
-abbrev pub Comes : TaskShape → Version → Section → ℕ → Next → Type 0
-Comes t v s n (nexts.On new) = IsSection t n new × ((ls : List CertLine) (x : Outcome (Unit {0})) → Left t v new n ls x → Left t v s n ls x)
-Comes t v s n (nexts.Fault at why) = (at < n) × ((ls : List CertLine) → Left t v s n ls (faulted at why))

@@ -30,7 +30,7 @@ LeftOf t (stages.Claimed v) n ls o = Then (λ n ls x. x ≡ take_claim n ls) (Re
 LeftOf t (stages.Sized v claim) n ls o = ReadsBody t v claim n ls o
 LeftOf t (stages.Within v claim s) n ls o = Then (Left t v s) (λ _ n ls o. o ≡ went (v, claim) ls n) n ls o
 
--- what is still to be read from line n on is formed
+-- what is still to be read from line n on is formed, and behind the first lines n is not too small
 abbrev pub IsStage : TaskShape → ℕ → Stage → Type 0
 IsStage t n stages.First = Unit {0}
 IsStage t n (stages.Claimed v) = Unit {0}

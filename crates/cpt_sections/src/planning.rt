@@ -4,8 +4,9 @@ ghost use Rattle.std.specs.Prelude.{◌≡◌, ◌≤◌, ◌<◌, ◌^◌, ℕ,
 ghost use Rattle.cpt_task.specs.Judgeable.{IsJudgeable};
 ghost use Rattle.cpt_cert.specs.declared.forms.Version.{Version};
 ghost use Rattle.cpt_verdict.specs.Accepting.{IsPlanOf, is_no_sooner};
-ghost use Rattle.cpt_sections.specs.Plans.{IsKept, KeepsAlso, EndsPlan, after_plan, MayEnd, IsFirstItems, TakesItem, Comes};
-ghost use Rattle.cpt_sections.specs.Sections.{IsSection, IsLine, Moves};
+ghost use Rattle.cpt_sections.specs.Plans.{IsKept, KeepsAlso, EndsPlan, after_plan, MayEnd, IsFirstItems, TakesItem};
+ghost use Rattle.cpt_sections.specs.Proceeding.{Proceeds};
+ghost use Rattle.cpt_sections.specs.Sections.{Left, IsSection, IsLine, Moves};
 
 use crate::section::{Aim, Items, Next, Section, Trees};
 use cpt_cert::CertLine;
@@ -62,7 +63,7 @@ fn behind_plan(
 /// What comes where so many lines of a plan are left. With none the plan is judged.
 fn at_items(alloc: Global, task: &Task, items: Items) -> Result<Next, Memory>
     requires { MayEnd task.now items }
-    ensures { IfOk result (λ next. (v : Version) (n : ℕ) → items.head < n → Comes task.now v (Section.Items items) n next) }
+    ensures { IfOk result (λ next. (v : Version) (n : ℕ) → items.head < n → Proceeds task.now v (Left task.now v (Section.Items items)) n next) }
 {
     if items.left == 0 {
         behind_plan(alloc, task, items.makespan, items.head, items.plan)
