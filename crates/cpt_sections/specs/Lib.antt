@@ -1,4 +1,5 @@
 pub mod Behind
+pub mod Plans
 pub mod Proceeding
 pub mod Sections
 pub mod Stages

@@ -1,7 +1,8 @@
-use Rattle.std.specs.Prelude.{◌≡◌, ◌≢◌, ℕ, ◌+◌, ◌≤◌, List, [], ◌∷◌, Option, None, Some}
+use Rattle.std.specs.Prelude.{◌≡◌, ℕ, ◌+◌, ◌≤◌, List, [], ◌∷◌, Option, None, Some}
 use Rattle.cpt_task.specs.Shape.{TaskShape}
 use Rattle.cpt_cert.specs.declared.forms.Version.{Version}
 use Rattle.cpt_cert.specs.declared.forms.Claim.{Claim}
+use Rattle.cpt_cert.specs.declared.forms.Claim.TheVariants as claims
 use Rattle.cpt_cert.specs.declared.forms.CertLine.{CertLine}
 use Rattle.cpt_cert.specs.declared.forms.CertLine.TheVariants as lines
 use Rattle.cpt_cert.specs.Forms.{IsClaim}
@@ -14,7 +15,12 @@ use Rattle.cpt_sections.specs.declared.section.Stage.{Stage}
 use Rattle.cpt_sections.specs.declared.section.Stage.TheVariants as stages
 use Rattle.cpt_sections.specs.declared.section.Turned.{Turned}
 use Rattle.cpt_sections.specs.declared.section.Turned.TheVariants as turns
+use Rattle.cpt_sections.specs.declared.section.Trees.TheVariants as trees
+use Rattle.cpt_sections.specs.declared.section.Aim.TheVariants as aims
+use Rattle.cpt_sections.specs.declared.section.Section.{Section}
 use Rattle.cpt_sections.specs.declared.section.Section.TheVariants as sections
+use Rattle.cpt_sections.specs.declared.section.Next.{Next}
+use Rattle.cpt_sections.specs.declared.section.Next.TheVariants as nexts
 use Rattle.cpt_sections.specs.Sections.{Left, IsSection, IsNothing}
 
 -- how the reading of what is still to be read of a certificate ends, from line n on
@@ -24,12 +30,24 @@ LeftOf t (stages.Claimed v) n ls o = Then (λ n ls x. x ≡ take_claim n ls) (Re
 LeftOf t (stages.Sized v claim) n ls o = ReadsBody t v claim n ls o
 LeftOf t (stages.Within v claim s) n ls o = Then (Left t v s) (λ _ n ls o. o ≡ went (v, claim) ls n) n ls o
 
--- what is still to be read from line n on is formed
+-- what is still to be read from line n on is formed, and behind the first lines n is not too small
 abbrev pub IsStage : TaskShape → ℕ → Stage → Type 0
 IsStage t n stages.First = Unit {0}
-IsStage t n (stages.Claimed v) = 1 ≤ n
-IsStage t n (stages.Sized v claim) = (2 ≤ n) × IsClaim claim
+IsStage t n (stages.Claimed v) = Unit {0}
+IsStage t n (stages.Sized v claim) = (1 ≤ n) × IsClaim claim
 IsStage t n (stages.Within v claim s) = (2 ≤ n) × IsSection t n s
+
+-- the first section that the claim asks for
+abbrev pub first_section : Claim → Section
+first_section (claims.Optimal m) = sections.Plan m
+first_section (claims.NoneUpTo m) = sections.Pairs (aims.Trees (trees.Closed m))
+first_section claims.Never = sections.Pairs aims.Goal
+first_section (claims.Spent refuted nodes) = sections.Pairs (aims.Trees (trees.Open refuted nodes))
+
+-- what a line of a section leads to
+abbrev pub turned : Version → Claim → Next → Turned
+turned v claim (nexts.On s) = turns.On (stages.Within v claim s)
+turned v claim (nexts.Fault at why) = turns.Fault at why
 
 -- the version that the first line names
 abbrev pub version_in : List CertLine → Option Version
