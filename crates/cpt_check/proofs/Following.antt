@@ -7,9 +7,11 @@ use Rattle.cpt_io.specs.Meaning.{Pulls}
 use Rattle.cpt_check.specs.declared.past.Past.{Past}
 use Rattle.cpt_check.specs.declared.past.Fault.{Fault}
 use Rattle.cpt_check.specs.declared.past.Found.TheVariants as founds
+use Rattle.cpt_check.specs.declared.judged.CheckError.{CheckError}
 use Rattle.cpt_check.specs.declared.judged.CheckError.TheVariants as errors
+use Rattle.cpt_check.specs.declared.judged.Judged.{Judged}
 use Rattle.cpt_check.specs.declared.judged.Ruling.TheVariants.{Rejected}
-use Rattle.cpt_check.specs.Judging.{IsFront, StandsIn, IsRejected, IsTooLong, LeavesOf}
+use Rattle.cpt_check.specs.Judging.{IsFront, StandsIn, IsRejected, IsTooLong, Rules, RulesOf, LeavesOf}
 use Rattle.cpt_check.specs.Progress.{IsRead, IsFoundAt, TakesFront, Follows}
 use Rattle.cpt_check.proofs.Concluding.{found_rejected, found_last, read_too_long}
 
@@ -50,7 +52,7 @@ regroup text bytes front more rest piece e k =
     e ∙ ap (λ z. (bytes ++ z) ++ rest) k ∙ append_assoc bytes (front ++ more) rest ∙ ap (λ z. bytes ++ z) (append_assoc front more rest) ∙ sym (append_assoc bytes front (more ++ rest))
 
 -- a fault is known in a piece
-pub fault_rules : (t : TaskShape) (told left : Option (List ℕ)) (text bytes piece : List ℕ) (room most : ℕ) (pending : List ℕ) (f : Fault) →
+fault_rules : (t : TaskShape) (told left : Option (List ℕ)) (text bytes piece : List ℕ) (room most : ℕ) (pending : List ℕ) (f : Fault) →
     told ≡ Some text → Follows told (bytes ++ piece) left → length bytes + room ≡ most → TakesFront t bytes piece room pending (Ok (founds.Fault f)) → IsRejected t most text f.version f.line f.why
 fault_rules t told left text bytes piece room most pending f e h size (front, more, parts, le, found) = go (subst (λ z. Follows z (bytes ++ piece) left) e h)
   where
@@ -76,7 +78,7 @@ fault_leaves t told left text bytes piece room pending f e h few (front, more, p
             let two = length-append bytes front in omega (arith, far, whole, one, two, few)
 
 -- more bytes came than may be taken
-pub too_long_rules : (t : TaskShape) (told left : Option (List ℕ)) (text bytes piece : List ℕ) (room most : ℕ) (pending : List ℕ) →
+too_long_rules : (t : TaskShape) (told left : Option (List ℕ)) (text bytes piece : List ℕ) (room most : ℕ) (pending : List ℕ) →
     told ≡ Some text → Follows told (bytes ++ piece) left → length bytes + room ≡ most → TakesFront t bytes piece room pending (Err errors.TooLong) → IsTooLong t most text
 too_long_rules t told left text bytes piece room most pending e h size (front, more, new, parts, all, lt, read) = go (subst (λ z. Follows z (bytes ++ piece) left) e h)
   where
@@ -88,3 +90,18 @@ too_long_rules t told left text bytes piece room most pending e h size (front, m
         let three = length-append more k.0 in
         let four : length piece ≡ length front + length more = ap length parts ∙ length-append front more in
         subst (IsTooLong t most) (sym same) (read_too_long t most (bytes ++ front) (more ++ k.0) new pending read (omega (arith, size, all, one)) (omega (arith, size, all, lt, one, two, three, four)))
+
+-- an error of taking a piece
+pub err_rules : (t : TaskShape) (told left : Option (List ℕ)) (text bytes piece : List ℕ) (room most : ℕ) (pending : List ℕ) (e : CheckError) →
+    told ≡ Some text → Follows told (bytes ++ piece) left → length bytes + room ≡ most → TakesFront t bytes piece room pending (Err e) → Rules t most text (Err e)
+err_rules t told left text bytes piece room most pending errors.TooLong same h size k = too_long_rules t told left text bytes piece room most pending same h size k
+err_rules t told left text bytes piece room most pending errors.Failed same h size k = absurd k
+err_rules t told left text bytes piece room most pending errors.Memory same h size k = tt
+
+pub never_failed : (t : TaskShape) (bytes piece : List ℕ) (room : ℕ) (pending : List ℕ) (e : CheckError) → TakesFront t bytes piece room pending (Err e) → e ≡ errors.Failed → ⊥
+never_failed t bytes piece room pending e h same = subst (λ z. TakesFront t bytes piece room pending (Err z)) same h
+
+pub fault_ruling : (t : TaskShape) (told left : Option (List ℕ)) (text bytes piece : List ℕ) (room most : ℕ) (pending : List ℕ) (f : Fault) (j : Judged) → j.version ≡ f.version → j.ruling ≡ Rejected f.line f.why →
+    told ≡ Some text → Follows told (bytes ++ piece) left → length bytes + room ≡ most → TakesFront t bytes piece room pending (Ok (founds.Fault f)) → RulesOf t most text j.version j.ruling
+fault_ruling t told left text bytes piece room most pending f j version ruling e h size k =
+    subst (λ z. RulesOf t most text z j.ruling) (sym version) (subst (RulesOf t most text f.version) (sym ruling) (fault_rules t told left text bytes piece room most pending f e h size k))

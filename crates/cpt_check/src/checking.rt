@@ -48,9 +48,10 @@ pub fn check<L: Library>(
         if count == 0 {
             return Ok(conclude(task, &past, &lines));
         }
-        match take_front(alloc, task, past, &mut lines, &piece[..count], room)? {
-            Found::On(next) => past = next,
-            Found::Fault(fault) => return Ok(rejected(fault)),
+        match take_front(alloc, task, past, &mut lines, &piece[..count], room) {
+            Ok(Found::On(next)) => past = next,
+            Ok(Found::Fault(fault)) => return Ok(rejected(fault)),
+            Err(e) => return Err(e),
         }
         room -= count as u64;
     }

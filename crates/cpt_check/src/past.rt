@@ -58,7 +58,7 @@ fn tell_end(stage: &Stage)
     let _ = claimed(stage);
 }
 
-/// Reads one line more.
+/// Reads one line more. Whether the text may end there is told at each line, so that no fault is ever passed.
 pub fn judge_line(
     alloc: Global,
     task: &Task,

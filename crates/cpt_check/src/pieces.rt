@@ -13,7 +13,7 @@ use std::alloc::Global;
 fn take_piece(
     alloc: Global,
     task: &Task,
-    past: Past,
+    mut past: Past,
     lines: &mut Lines,
     piece: &[u8],
 ) -> Result<Found, Memory>
@@ -22,7 +22,6 @@ fn take_piece(
     requires actions { length task.now.actions ≤ 4096 }
     ensures { IfOk result (λ f. (bytes : List ℕ) → IsRead task.now bytes past lines.old → Takes task.now bytes piece.now lines.new f) }
 {
-    let mut past = past;
     let mut at = 0;
     loop {
         let (taken, line) = lines.feed(&piece[at..])?;
@@ -48,7 +47,8 @@ fn fitting(piece: &[u8], room: u64) -> &[u8]
     }
 }
 
-/// Reads a piece more, as far as there is room.
+/// Reads a piece more, as far as there is room. `TooLong` comes exactly where the piece has more bytes, and no fault is
+/// known from those that have room.
 pub fn take_front(
     alloc: Global,
     task: &Task,
