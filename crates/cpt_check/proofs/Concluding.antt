@@ -12,16 +12,15 @@ use Rattle.cpt_cert.specs.Lines.{kept}
 use Rattle.cpt_cert.proofs.Enough.{kept_nothing}
 use Rattle.cpt_verdict.specs.declared.faults.Why.{Why}
 use Rattle.cpt_verdict.specs.declared.faults.Why.TheVariants as whys
-use Rattle.cpt_verdict.specs.Reading.{Outcome}
 use Rattle.cpt_verdict.specs.Reading.Outcome.{went, faulted}
 use Rattle.cpt_verdict.specs.Descent.{ReadsAll}
-use Rattle.cpt_verdict.specs.Texts.{ended, unended, AreLinesOf, FirstFault}
+use Rattle.cpt_verdict.specs.Texts.{ended, unended, AreLinesOf}
 use Rattle.cpt_sections.specs.declared.section.Stage.{Stage}
 use Rattle.cpt_sections.specs.Stages.{LeftOf, version_in, version_at, Ends}
 use Rattle.cpt_check.specs.declared.past.Past.{Past}
 use Rattle.cpt_check.specs.declared.past.Fault.{Fault}
-use Rattle.cpt_check.specs.Judging.{IsFront, StandsIn, IsVersionOf, StandsWithin, IsRejected, IsTooLong}
-use Rattle.cpt_check.specs.Progress.{IsPast, IsRead, IsFoundAt, Concludes}
+use Rattle.cpt_check.specs.Judging.{IsFront, StandsIn, IsVersionOf, IsRejected, IsTooLong}
+use Rattle.cpt_check.specs.Progress.{IsRead, IsFoundAt, Concludes}
 use Rattle.cpt_check.proofs.Lines.{last_apart, first_names}
 use Rattle.cpt_check.proofs.Splits.{zip_length, front_lines, front_first, front_within}
 
@@ -47,12 +46,16 @@ ends_whole t text p pending o h ends none = go o ends
     same = ap (λ z. h.read ++ unended z) (sym ((kept_nothing h.tail).0 (sym h.enough ∙ none)))
 
     go : (o : Option (Version × Claim)) → Ends t p.stage (length h.read + 1) o → Concludes t text p.count o
-    go None k =
-        (h.read ++ unended h.tail, text_lines t text p pending h,
-          subst (λ z. ReadsAll t (h.read ++ unended h.tail) (faulted (z + 1) whys.Grammar)) (sym h.past.count) (subst (λ z. ReadsAll t z (faulted (length h.read + 1) whys.Grammar)) same (h.past.reads [] (faulted (length h.read + 1) whys.Grammar) (k [] tt))))
-    go (Some claimed) k =
-        (h.read ++ unended h.tail, text_lines t text p pending h,
-          (length h.read + 1, subst (λ z. ReadsAll t z (went claimed [] (length h.read + 1))) same (h.past.reads [] (went claimed [] (length h.read + 1)) k.0)))
+    go None k = (
+      h.read ++ unended h.tail,
+      text_lines t text p pending h,
+      subst (λ z. ReadsAll t (h.read ++ unended h.tail) (faulted (z + 1) whys.Grammar)) (sym h.past.count) (subst (λ z. ReadsAll t z (faulted (length h.read + 1) whys.Grammar)) same (h.past.reads [] (faulted (length h.read + 1) whys.Grammar) (k [] tt))),
+    )
+    go (Some claimed) k = (
+      h.read ++ unended h.tail,
+      text_lines t text p pending h,
+      (length h.read + 1, subst (λ z. ReadsAll t z (went claimed [] (length h.read + 1))) same (h.past.reads [] (went claimed [] (length h.read + 1)) k.0)),
+    )
 
 -- the version that the first line of a text names
 names_end : (read : List CertLine) (tail : List ℕ) → version_in read ≡ version_in (read ++ unended tail)

@@ -1,10 +1,8 @@
 -- the bytes that a library gives, one piece behind another
 use Rattle.std.proofs.Common.{◌≡◌, ℕ, ◌+◌, ◌<◌, ◌≤◌, List, [], ◌∷◌, ◌++◌, length, take, Option, None, Some, Ok, Err, refl, sym, ap, ◌∙◌, subst, arith, append_assoc, append-nil, length-append}
-use Rattle.std.proofs.lemmas.List.{length-take}
 use Rattle.cpt_task.specs.Shape.{TaskShape}
 use Rattle.cpt_cert.specs.declared.forms.CertLine.{CertLine}
 use Rattle.cpt_io.specs.Meaning.{Pulls}
-use Rattle.cpt_check.specs.declared.past.Past.{Past}
 use Rattle.cpt_check.specs.declared.past.Fault.{Fault}
 use Rattle.cpt_check.specs.declared.past.Found.TheVariants as founds
 use Rattle.cpt_check.specs.declared.judged.CheckError.{CheckError}
@@ -12,7 +10,7 @@ use Rattle.cpt_check.specs.declared.judged.CheckError.TheVariants as errors
 use Rattle.cpt_check.specs.declared.judged.Judged.{Judged}
 use Rattle.cpt_check.specs.declared.judged.Ruling.TheVariants.{Rejected}
 use Rattle.cpt_check.specs.Judging.{IsFront, StandsIn, IsRejected, IsTooLong, Rules, RulesOf, LeavesOf}
-use Rattle.cpt_check.specs.Progress.{IsRead, IsFoundAt, TakesFront, Follows}
+use Rattle.cpt_check.specs.Progress.{TakesFront, Follows}
 use Rattle.cpt_check.proofs.Concluding.{found_rejected, found_last, read_too_long}
 
 -- nothing came yet

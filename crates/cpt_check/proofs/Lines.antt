@@ -1,5 +1,5 @@
 -- one line more behind lines in which no fault stands
-use Rattle.std.proofs.Common.{◌≡◌, ℕ, ◌+◌, ◌<◌, ◌≤◌, ◌⊎◌, inl, inr, List, [], ◌∷◌, ◌++◌, length, Option, None, Some, refl, sym, ap, ◌∙◌, subst, arith, append_assoc, append-nil, length-append}
+use Rattle.std.proofs.Common.{◌≡◌, ℕ, ◌+◌, ◌<◌, ◌≤◌, ◌⊎◌, inl, inr, List, [], ◌∷◌, ◌++◌, length, Option, None, Some, refl, sym, ◌∙◌, subst, arith, append_assoc, append-nil, length-append}
 use Rattle.cpt_task.specs.Shape.{TaskShape}
 use Rattle.cpt_cert.specs.declared.forms.Version.{Version}
 use Rattle.cpt_cert.specs.declared.forms.Claim.{Claim}
@@ -15,7 +15,6 @@ use Rattle.cpt_sections.specs.declared.section.Stage.{Stage}
 use Rattle.cpt_sections.specs.declared.section.Stage.TheVariants as stages
 use Rattle.cpt_sections.specs.Stages.{LeftOf, IsStage, version_in, version_at, version_behind, Advances, Fails, Ends}
 use Rattle.cpt_check.specs.declared.past.Past.{Past}
-use Rattle.cpt_check.specs.declared.past.Fault.{Fault}
 use Rattle.cpt_check.specs.Judging.{StandsIn}
 use Rattle.cpt_check.specs.Progress.{IsFaultless, IsPast, IsFoundIn}
 

@@ -1,5 +1,5 @@
 -- whole lines at the front of a text
-use Rattle.std.proofs.Common.{◌≡◌, ◌≢◌, ℕ, ◌+◌, ◌<◌, ◌≤◌, ◌⊎◌, inl, inr, List, [], ◌∷◌, ◌++◌, length, All, unwrap_or, refl, sym, ap, ◌∙◌, subst, arith, append_assoc, append-nil, length-append}
+use Rattle.std.proofs.Common.{◌≡◌, ◌≢◌, ℕ, ◌+◌, ◌≤◌, ◌⊎◌, inl, inr, List, [], ◌∷◌, ◌++◌, length, All, unwrap_or, refl, sym, ap, ◌∙◌, subst, arith, append_assoc, length-append}
 use Rattle.std.specs.List.{AllZip}
 use Rattle.std.proofs.lemmas.Bool.{cases_lt, cases_eq}
 use Rattle.std.proofs.lemmas.List.Elements.{All-nil, All-cons, All-head, All-tail, All-append}
@@ -114,8 +114,7 @@ split_behind text bodies rest more tail e h k = record {
 pub front_lines : (text : List ℕ) (n : ℕ) (ls : List CertLine) → IsFront text n ls → (more : List CertLine) × AreLinesOf text (ls ++ more)
 front_lines text n ls h =
     let s = split_of h.rest in
-    let r = readings s.bodies in
-    (
+    let r = readings s.bodies in (
       r.0 ++ unended s.tail,
       record {
         bodies = h.bodies ++ s.bodies;

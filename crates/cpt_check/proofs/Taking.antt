@@ -1,6 +1,5 @@
 -- pieces of a text, one behind another
-use Rattle.std.proofs.Common.{◌≡◌, ◌≢◌, ℕ, ◌+◌, ◌-◌, ◌<◌, ◌≤◌, List, [], ◌∷◌, ◌++◌, length, take, drop, All, Option, None, Some, Result, Ok, Err, refl, sym, ap, ◌∙◌, subst, arith, append_assoc, append-nil, length-append, length-drop}
-use Rattle.std.specs.List.{AllZip}
+use Rattle.std.proofs.Common.{◌≡◌, ◌≢◌, ℕ, ◌+◌, ◌-◌, ◌<◌, ◌≤◌, List, [], ◌∷◌, ◌++◌, length, take, drop, Option, None, Some, Result, Ok, Err, refl, sym, ap, ◌∙◌, subst, arith, append_assoc, append-nil, length-append, length-drop}
 use Rattle.std.proofs.Math.Seq.{take-add, take-append-add}
 use Rattle.std.proofs.lemmas.List.{take-append-drop, take_all, length-take, length-take-le}
 use Rattle.std.proofs.lemmas.List.Elements.{All-nil, All-cons, All-append}
@@ -117,9 +116,12 @@ fed_line t bytes p before after piece at taken line new h (body, f, size, e) lea
 pub fed_fault : (t : TaskShape) (bytes : List ℕ) (p : Past) (before after piece : List ℕ) (at taken : ℕ) (line : CertLine) (fault : Fault) →
     IsRead t (bytes ++ take at piece) p before → Feeds before after (drop at piece) (Ok (taken, Some line)) → ((read : List CertLine) → IsPast t read p → IsFoundIn t read line fault) →
     (front : List ℕ) × (more : List ℕ) × (piece ≡ front ++ more) × IsFoundAt t (bytes ++ front) fault
-fed_fault t bytes p before after piece at taken line fault h (body, f, size, e) leads =
-    (take at piece ++ (body ++ 10 ∷ []), f.rest, line_behind piece at body f.rest f.piece_is,
-      subst (λ z. IsFoundAt t z fault) (append_assoc bytes (take at piece) (body ++ 10 ∷ [])) (found_line t (bytes ++ take at piece) p before (drop at piece) body line fault h f (leads h.read h.past)))
+fed_fault t bytes p before after piece at taken line fault h (body, f, size, e) leads = (
+  take at piece ++ (body ++ 10 ∷ []),
+  f.rest,
+  line_behind piece at body f.rest f.piece_is,
+  subst (λ z. IsFoundAt t z fault) (append_assoc bytes (take at piece) (body ++ 10 ∷ [])) (found_line t (bytes ++ take at piece) p before (drop at piece) body line fault h f (leads h.read h.past)),
+)
 
 -- no line ends in what is left of a piece
 pub fed_none : (t : TaskShape) (bytes : List ℕ) (p : Past) (before after piece : List ℕ) (at taken : ℕ) → IsRead t (bytes ++ take at piece) p before → Feeds before after (drop at piece) (Ok (taken, None)) → IsRead t (bytes ++ piece) p after
@@ -148,7 +150,10 @@ front_too_long t bytes piece room new pending h lt = (take room piece, drop room
 
 -- a fault is known in the part for which there is room
 pub front_fault : (t : TaskShape) (bytes piece : List ℕ) (room : ℕ) (fault : Fault) (pending : List ℕ) → Takes t bytes (take room piece) pending (founds.Fault fault) → TakesFront t bytes piece room pending (Ok (founds.Fault fault))
-front_fault t bytes piece room fault pending (front, more, e, found) =
-    (front, more ++ drop room piece, sym (take-append-drop room piece) ∙ ap (λ z. z ++ drop room piece) e ∙ append_assoc front more (drop room piece),
-      (let size = length-take room piece in let parts : length (take room piece) ≡ length front + length more = ap length e ∙ length-append front more in omega (arith, size, parts)),
-      found)
+front_fault t bytes piece room fault pending (front, more, e, found) = (
+  front,
+  more ++ drop room piece,
+  sym (take-append-drop room piece) ∙ ap (λ z. z ++ drop room piece) e ∙ append_assoc front more (drop room piece),
+  (let size = length-take room piece in let parts : length (take room piece) ≡ length front + length more = ap length e ∙ length-append front more in omega (arith, size, parts)),
+  found,
+)

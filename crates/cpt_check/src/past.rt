@@ -58,13 +58,8 @@ fn tell_end(stage: &Stage)
     let _ = claimed(stage);
 }
 
-/// Reads one line more. Whether the text may end there is told at each line, so that no fault is ever passed.
-pub fn judge_line(
-    alloc: Global,
-    task: &Task,
-    past: Past,
-    line: &CertLine,
-) -> Result<Found, Memory>
+/// Reads one line more.
+pub fn judge_line(alloc: Global, task: &Task, past: Past, line: &CertLine) -> Result<Found, Memory>
     requires stage { IsStage task.now (past.count + 1) past.stage }
     requires line { IsLine line.now }
     requires few { past.count ≤ 2 ^ 36 }

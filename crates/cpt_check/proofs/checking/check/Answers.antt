@@ -1,8 +1,8 @@
-use Rattle.std.proofs.Common.{◌≡◌, ◌<◌, ◌+◌, ◌≤◌, ℕ, List, [], ◌∷◌, ◌++◌, length, take, Option, Some, Result, Ok, Err, subst, sym, ap, refl, ◌∙◌, arith, length-append}
+use Rattle.std.proofs.Common.{◌≡◌, ◌<◌, ◌≤◌, [], ◌++◌, length, take, Result, Ok, Err, subst, sym, ap, refl, ◌∙◌, arith, length-append}
 use Rattle.std.proofs.lemmas.List.{length-take, length-take-le}
 use Rattle.cpt_check.specs.declared.past.Found.TheVariants as founds
 use Rattle.cpt_check.specs.Judging.{LeavesOf}
-use Rattle.cpt_check.specs.Progress.{IsRead, TakesFront, Follows}
+use Rattle.cpt_check.specs.Progress.{IsRead, TakesFront}
 use Rattle.cpt_check.proofs.Taking.{past_few, read_start}
 use Rattle.cpt_check.proofs.Following.{follows_none, follows_more, follows_all, fault_ruling, fault_leaves, err_rules, never_failed}
 use Rattle.cpt_check.proofs.checking.check.Goals as goal

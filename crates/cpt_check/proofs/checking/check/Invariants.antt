@@ -1,4 +1,4 @@
-use Rattle.std.proofs.Common.{◌≡◌, ◌+◌, ◌≤◌, ℕ, List, IsTrue, length}
+use Rattle.std.proofs.Common.{◌≡◌, ◌+◌, ℕ, List, IsTrue, length}
 use Rattle.cpt_check.specs.Progress.{IsRead, Follows}
 use Rattle.cpt_check.proofs.checking.check.Given as goal
 

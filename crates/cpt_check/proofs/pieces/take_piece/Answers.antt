@@ -1,8 +1,8 @@
-use Rattle.std.proofs.Common.{◌≡◌, ℕ, ◌+◌, ◌-◌, ◌≤◌, List, ◌∷◌, [], ◌++◌, length, take, drop, Ok, None, Some, subst, arith, length-append, length-drop}
+use Rattle.std.proofs.Common.{◌≡◌, ◌+◌, ◌-◌, List, ◌∷◌, [], ◌++◌, length, take, drop, Ok, None, Some, subst, arith, length-append, length-drop}
 use Rattle.std.proofs.lemmas.List.{length-take}
 use Rattle.cpt_cert.specs.declared.forms.CertLine.{CertLine}
 use Rattle.cpt_cert.specs.Lines.{Feeds}
-use Rattle.cpt_check.specs.Progress.{IsPast, IsFoundIn, IsRead, Leads}
+use Rattle.cpt_check.specs.Progress.{IsPast, IsFoundIn, Leads}
 use Rattle.cpt_check.proofs.Taking.{past_few, stage_next, fed_none, fed_line, fed_fault, fed_is_line, fed_rest}
 use Rattle.cpt_check.proofs.pieces.take_piece.Goals as goal
 
