@@ -3,7 +3,11 @@
 ghost use Rattle.std.specs.Prelude.{◌≡◌, ◌≢◌, ◌-◌, ◌^◌, ◌<◌, ◌≤◌, ℕ, List, length, IsTrue, IsErrOf, Err, Some};
 ghost use Rattle.cpt_check.specs.Judging.{Rules, Leaves, Holds};
 
+use crate::ending::{conclude, rejected};
 use crate::judged::{CheckError, Judged};
+use crate::past::{Found, start};
+use crate::pieces::take_front;
+use cpt_cert::Lines;
 use cpt_io::Library;
 use cpt_task::Task;
 use std::alloc::Global;
@@ -35,9 +39,20 @@ pub fn check<L: Library>(
     ensures steady { IsTrue (L.steady lib.old) → IsTrue (L.steady lib.new) }
     ensures never { IsTrue (L.steady lib.old) → IsErrOf result CheckError.Failed → ⊥ }
 {
-    let _ = alloc;
-    let _ = task;
-    let _ = lib;
-    let _ = most;
-    Err(CheckError::Memory)
+    let mut lines = Lines::new(alloc)?;
+    let mut past = start();
+    let mut room = most;
+    let mut piece = [0u8; 4096];
+    loop {
+        let count = lib.pull(&mut piece)?;
+        if count == 0 {
+            return Ok(conclude(task, &past, &lines));
+        }
+        match take_front(alloc, task, past, &mut lines, &piece[..count], room) {
+            Ok(Found::On(next)) => past = next,
+            Ok(Found::Fault(fault)) => return Ok(rejected(fault)),
+            Err(e) => return Err(e),
+        }
+        room -= count as u64;
+    }
 }

@@ -2,7 +2,11 @@
 #![tactic(auto)]
 
 mod checking;
+mod ending;
+mod errors;
 mod judged;
+mod past;
+mod pieces;
 
 pub use checking::check;
 pub use judged::{CheckError, Judged, Ruling};
