@@ -9,7 +9,7 @@ use Rattle.cpt_check.specs.declared.judged.CheckError.{CheckError}
 use Rattle.cpt_check.specs.declared.judged.CheckError.TheVariants as errors
 use Rattle.cpt_check.specs.declared.judged.Judged.{Judged}
 use Rattle.cpt_check.specs.declared.judged.Ruling.TheVariants.{Rejected}
-use Rattle.cpt_check.specs.Judging.{IsFront, StandsIn, IsRejected, IsTooLong, Rules, RulesOf, LeavesOf}
+use Rattle.cpt_check.specs.Judging.{IsFront, StandsIn, IsRejected, IsTooLong, Rules, RulesOf, Leaves, LeavesOf}
 use Rattle.cpt_check.specs.Progress.{TakesFront, Follows}
 use Rattle.cpt_check.proofs.Concluding.{found_rejected, found_last, read_too_long}
 
@@ -64,16 +64,15 @@ pub fault_leaves : (t : TaskShape) (told left : Option (List ℕ)) (text bytes p
 fault_leaves t told left text bytes piece room pending f e h few (front, more, parts, le, found) = go (subst (λ z. Follows z (bytes ++ piece) left) e h)
   where
     go : Follows (Some text) (bytes ++ piece) left → LeavesOf t text left (Rejected f.line f.why)
-    go k = (k.0, k.1, λ n ls at s. close n (last n ls at s))
+    go k = (bytes ++ piece, record { rest = k.0; parts = k.2; left_is = k.1 }, λ n ls at s. close n (last n ls at s))
       where
         last : (n : ℕ) (ls : List CertLine) → IsFront text n ls → StandsIn t ls f.line f.why → length (bytes ++ front) ≤ n
         last n ls at s = found_last t (bytes ++ front) (more ++ k.0) f n ls found (subst (λ z. IsFront z n ls) (regroup text bytes front more k.0 piece k.2 parts) at) s
 
-        close : (n : ℕ) → length (bytes ++ front) ≤ n → length text ≤ length k.0 + (n + 65536)
+        close : (n : ℕ) → length (bytes ++ front) ≤ n → length (bytes ++ piece) ≤ n + 65536
         close n far =
-            let whole : length text ≡ length (bytes ++ piece) + length k.0 = ap length k.2 ∙ length-append (bytes ++ piece) k.0 in
             let one = length-append bytes piece in
-            let two = length-append bytes front in omega (arith, far, whole, one, two, few)
+            let two = length-append bytes front in omega (arith, far, one, two, few)
 
 -- more bytes came than may be taken
 too_long_rules : (t : TaskShape) (told left : Option (List ℕ)) (text bytes piece : List ℕ) (room most : ℕ) (pending : List ℕ) →
@@ -103,3 +102,18 @@ pub fault_ruling : (t : TaskShape) (told left : Option (List ℕ)) (text bytes p
     told ≡ Some text → Follows told (bytes ++ piece) left → length bytes + room ≡ most → TakesFront t bytes piece room pending (Ok (founds.Fault f)) → RulesOf t most text j.version j.ruling
 fault_ruling t told left text bytes piece room most pending f j version ruling e h size k =
     subst (λ z. RulesOf t most text z j.ruling) (sym version) (subst (RulesOf t most text f.version) (sym ruling) (fault_rules t told left text bytes piece room most pending f e h size k))
+
+-- what is left at an error of taking a piece
+pub err_leaves : (t : TaskShape) (told left : Option (List ℕ)) (text bytes piece : List ℕ) (room most : ℕ) (pending : List ℕ) (e : CheckError) →
+    told ≡ Some text → Follows told (bytes ++ piece) left → length bytes + room ≡ most → length piece ≤ 65536 → TakesFront t bytes piece room pending (Err e) → Leaves t most text left (Err e)
+err_leaves t told left text bytes piece room most pending errors.TooLong same h size few k = go (subst (λ z. Follows z (bytes ++ piece) left) same h)
+  where
+    go : Follows (Some text) (bytes ++ piece) left → Leaves t most text left (Err errors.TooLong)
+    go f =
+        let one = length-append bytes piece in (bytes ++ piece, record { rest = f.0; parts = f.2; left_is = f.1 }, omega (arith, size, few, one))
+err_leaves t told left text bytes piece room most pending errors.Failed same h size few k = absurd k
+err_leaves t told left text bytes piece room most pending errors.Memory same h size few k = tt
+
+-- these bytes are a text, and all of it came
+pub all_came : (bytes : List ℕ) → Follows (Some bytes) bytes (Some [])
+all_came bytes = ([], refl, sym (append-nil bytes))

@@ -72,16 +72,25 @@ Rules t most text (Err errors.TooLong) = IsTooLong t most text
 Rules t most text (Err errors.Failed) = ⊤
 Rules t most text (Err errors.Memory) = ⊤
 
--- of a text that is accepted nothing is left, and of one that is rejected at most 65,536 bytes were pulled behind each
--- front of whole lines in which the fault stands
+-- these bytes of the text came, and the rest of it is left
+pub record Came (text : List ℕ) (left : Option (List ℕ)) (bytes : List ℕ) : Type 0 where
+  pub rest : List ℕ
+  pub parts : text ≡ bytes ++ rest
+  pub left_is : left ≡ Some rest
+
+-- of a text that is accepted nothing is left, and of one that is rejected at most 65,536 bytes came behind each front of
+-- whole lines in which the fault stands
 abbrev pub LeavesOf : TaskShape → List ℕ → Option (List ℕ) → Ruling → Type 0
 LeavesOf t text left (Accepted claim) = left ≡ Some []
 LeavesOf t text left (Rejected line why) =
-    (rest : List ℕ) × (left ≡ Some rest) × ((bytes : ℕ) (ls : List CertLine) → IsFront text bytes ls → StandsIn t ls line why → length text ≤ length rest + (bytes + 65536))
+    (came : List ℕ) × Came text left came × ((bytes : ℕ) (ls : List CertLine) → IsFront text bytes ls → StandsIn t ls line why → length came ≤ bytes + 65536)
 
-abbrev pub Leaves : TaskShape → List ℕ → Option (List ℕ) → Result Judged CheckError → Type 0
-Leaves t text left (Ok judged) = LeavesOf t text left judged.ruling
-Leaves t text left (Err e) = ⊤
+-- what is left of a text; where it is too long, at most 65,536 bytes came behind those that are taken
+abbrev pub Leaves : TaskShape → ℕ → List ℕ → Option (List ℕ) → Result Judged CheckError → Type 0
+Leaves t most text left (Ok judged) = LeavesOf t text left judged.ruling
+Leaves t most text left (Err errors.TooLong) = (came : List ℕ) × Came text left came × (length came ≤ most + 65536)
+Leaves t most text left (Err errors.Failed) = ⊤
+Leaves t most text left (Err errors.Memory) = ⊤
 
 -- the claim of an accepted text holds, with the plan of a certificate that the text is
 abbrev pub RulingHolds : TaskShape → List ℕ → Option Version → Ruling → Type 0
@@ -92,3 +101,7 @@ RulingHolds t text version (Rejected line why) = ⊤
 abbrev pub Holds : TaskShape → List ℕ → Result Judged CheckError → Type 0
 Holds t text (Ok judged) = RulingHolds t text judged.version judged.ruling
 Holds t text (Err e) = ⊤
+
+-- all that is said of a text
+abbrev pub SaysOf : TaskShape → ℕ → List ℕ → Result Judged CheckError → Type 0
+SaysOf t most text result = Rules t most text result × Holds t text result

@@ -1,7 +1,7 @@
 //! The checker of certificates.
 
-ghost use Rattle.std.specs.Prelude.{◌≡◌, ◌≢◌, ◌-◌, ◌^◌, ◌<◌, ◌≤◌, ℕ, List, length, IsTrue, IsErrOf, Err, Some};
-ghost use Rattle.cpt_check.specs.Judging.{Rules, Leaves, Holds};
+ghost use Rattle.std.specs.Prelude.{◌≡◌, ◌≢◌, ◌-◌, ◌^◌, ◌<◌, ◌≤◌, ℕ, List, length, IsTrue, IsErrOf, Err, None, Some};
+ghost use Rattle.cpt_check.specs.Judging.{Rules, Leaves, Holds, SaysOf};
 
 use crate::ending::{conclude, rejected};
 use crate::judged::{CheckError, Judged};
@@ -17,8 +17,8 @@ use std::alloc::Global;
 /// `Accepted` comes exactly where the text has at most `most` bytes and is a certificate of the task; it was then read
 /// to its end. `Rejected` carries the first fault of the text, which has at most `most` bytes, or the fault stands in
 /// lines that end within them; at most 65,536 bytes were pulled behind the line after which the fault is known.
-/// `TooLong` comes exactly where more bytes came and no fault stood in the lines that end within them. `Failed` comes
-/// only where a call on the library failed. `Memory` means want of memory.
+/// `TooLong` comes exactly where more bytes came and no fault stood in the lines that end within them; at most 65,536
+/// more were pulled. `Failed` comes only where a call on the library failed. `Memory` means want of memory.
 pub fn check<L: Library>(
     alloc: Global,
     task: &Task,
@@ -31,9 +31,11 @@ pub fn check<L: Library>(
     requires faults { L.faults lib.old < 2 ^ 64 - 1 }
     ensures same { L.holds lib.new ≡ L.holds lib.old }
     ensures rules { (text : List ℕ) → L.left lib.old ≡ Some text → Rules task.now most text result }
-    ensures leaves { (text : List ℕ) → L.left lib.old ≡ Some text → Leaves task.now text (L.left lib.new) result }
+    ensures leaves { (text : List ℕ) → L.left lib.old ≡ Some text → Leaves task.now most text (L.left lib.new) result }
     // Where the text is accepted its claim holds.
     ensures holds { (text : List ℕ) → L.left lib.old ≡ Some text → Holds task.now text result }
+    // Where the library tells no bytes, there is a text of which this is said.
+    ensures untold { L.left lib.old ≡ None → (text : List ℕ) × SaysOf task.now most text result }
     ensures failed { IsErrOf result CheckError.Failed → L.faults lib.old < L.faults lib.new }
     ensures kept { result ≢ Err CheckError.Failed → L.faults lib.new ≡ L.faults lib.old }
     ensures steady { IsTrue (L.steady lib.old) → IsTrue (L.steady lib.new) }

@@ -9,4 +9,5 @@ mod past;
 mod pieces;
 
 pub use checking::check;
+pub use cpt_verdict::Why;
 pub use judged::{CheckError, Judged, Ruling};

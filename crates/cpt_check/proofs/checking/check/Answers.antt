@@ -1,10 +1,10 @@
-use Rattle.std.proofs.Common.{◌≡◌, ◌<◌, ◌≤◌, [], ◌++◌, length, take, Result, Ok, Err, subst, sym, ap, refl, ◌∙◌, arith, length-append}
+use Rattle.std.proofs.Common.{◌≡◌, ◌<◌, ◌≤◌, [], ◌++◌, length, take, Some, Result, Ok, Err, subst, sym, ap, refl, ◌∙◌, arith, length-append}
 use Rattle.std.proofs.lemmas.List.{length-take, length-take-le}
 use Rattle.cpt_check.specs.declared.past.Found.TheVariants as founds
-use Rattle.cpt_check.specs.Judging.{LeavesOf}
+use Rattle.cpt_check.specs.Judging.{LeavesOf, RulingHolds}
 use Rattle.cpt_check.specs.Progress.{IsRead, TakesFront}
 use Rattle.cpt_check.proofs.Taking.{past_few, read_start}
-use Rattle.cpt_check.proofs.Following.{follows_none, follows_more, follows_all, fault_ruling, fault_leaves, err_rules, never_failed}
+use Rattle.cpt_check.proofs.Following.{follows_none, follows_more, follows_all, all_came, fault_ruling, fault_leaves, err_rules, err_leaves, never_failed}
 use Rattle.cpt_check.proofs.checking.check.Goals as goal
 
 the_error : {A B : Type 0} {e d : B} → let r : Result A B = Err e in r ≡ Err d → e ≡ d
@@ -81,6 +81,39 @@ returns-in-Err-clause-rules g c = λ text e.
     let f : TakesFront c.args.task.now r.0 front c.loop-past.room c.take_front.new.lines (Err c.in-Err.e) = c.in-Err.ensures r.0 r.1 in
     let h = follows_more told r.0 c.pull.new.piece c.in_ok-count.count (g.L.Library.left c.loop-past.lib) left r.3 c.in_ok-count.ensures.bytes in
     err_rules c.args.task.now told left text r.0 front c.loop-past.room c.args.most c.take_front.new.lines c.in-Err.e e h r.2 f
+
+pub returns-in-Err-clause-leaves : goal.returns-in-Err-clause-leaves
+returns-in-Err-clause-leaves g c = λ text e.
+    let r = c.loop-past.invariant.read in
+    let told = g.L.Library.left c.args.lib.now in
+    let left = g.L.Library.left c.pull.new.self in
+    let front = take c.in_ok-count.count c.pull.new.piece in
+    let f : TakesFront c.args.task.now r.0 front c.loop-past.room c.take_front.new.lines (Err c.in-Err.e) = c.in-Err.ensures r.0 r.1 in
+    let h = follows_more told r.0 c.pull.new.piece c.in_ok-count.count (g.L.Library.left c.loop-past.lib) left r.3 c.in_ok-count.ensures.bytes in
+    let size = length-take c.in_ok-count.count c.pull.new.piece in
+    let all : length c.pull.new.piece ≡ 4096 = omega arith in
+    err_leaves c.args.task.now told left text r.0 front c.loop-past.room c.args.most c.take_front.new.lines c.in-Err.e e h r.2 (omega (arith, size, all)) f
+
+pub returns-then-count-eq0-clause-untold : goal.returns-then-count-eq0-clause-untold
+returns-then-count-eq0-clause-untold g c = λ e.
+    let r = c.loop-past.invariant.read in
+    let size = r.2 in (r.0, (c.conclude.ensures.rules c.args.most r.0 r.1 (omega (arith, size)), c.conclude.ensures.holds r.0 r.1))
+
+pub returns-in-Ok-Fault-clause-untold : goal.returns-in-Ok-Fault-clause-untold
+returns-in-Ok-Fault-clause-untold g c = λ e.
+    let r = c.loop-past.invariant.read in
+    let front = take c.in_ok-count.count c.pull.new.piece in
+    let text = r.0 ++ front in
+    let f : TakesFront c.args.task.now r.0 front c.loop-past.room c.take_front.new.lines (Ok (founds.Fault c.in-Ok-Fault.fault)) = subst (λ z. TakesFront c.args.task.now r.0 front c.loop-past.room c.take_front.new.lines (Ok z)) c.in-Ok-Fault.field-0-is (c.in-Ok-Fault.ensures r.0 r.1) in
+    (text, (fault_ruling c.args.task.now (Some text) (Some []) text r.0 front c.loop-past.room c.args.most c.take_front.new.lines c.in-Ok-Fault.fault c.rejected.result c.rejected.ensures.version c.rejected.ensures.ruling refl (all_came text) r.2 f, subst (RulingHolds c.args.task.now text c.rejected.result.version) (sym c.rejected.ensures.ruling) tt))
+
+pub returns-in-Err-clause-untold : goal.returns-in-Err-clause-untold
+returns-in-Err-clause-untold g c = λ e.
+    let r = c.loop-past.invariant.read in
+    let front = take c.in_ok-count.count c.pull.new.piece in
+    let text = r.0 ++ front in
+    let f : TakesFront c.args.task.now r.0 front c.loop-past.room c.take_front.new.lines (Err c.in-Err.e) = c.in-Err.ensures r.0 r.1 in
+    (text, (err_rules c.args.task.now (Some text) (Some []) text r.0 front c.loop-past.room c.args.most c.take_front.new.lines c.in-Err.e refl (all_came text) r.2 f, tt))
 
 pub returns-in-Err-clause-failed : goal.returns-in-Err-clause-failed
 returns-in-Err-clause-failed g c = λ failed.

@@ -1,4 +1,4 @@
-use Rattle.std.proofs.Common.{◌+◌, [], refl, inl}
+use Rattle.std.proofs.Common.{◌+◌, [], refl, sym, append-nil, inl}
 use Rattle.cpt_verdict.specs.declared.faults.Why.TheVariants as whys
 use Rattle.cpt_verdict.proofs.TextLines.{whole_text}
 use Rattle.cpt_verdict.proofs.Truth.{certificates_hold}
@@ -21,4 +21,4 @@ returns-in-None-clause-rules c = λ most text h le.
     record { version_is = version_at_end c.args.task.now text c.args.past.now c.args.lines.now c.version_of.result h c.version_of.ensures; first = c.in-None.ensures c.args.task.now text h; known = inl le }
 
 pub returns-in-None-clause-leaves : goal.returns-in-None-clause-leaves
-returns-in-None-clause-leaves c = λ text h. ([], refl, λ bytes ls front stands. absurd (read_faultless c.args.task.now text c.args.past.now c.args.lines.now bytes ls (c.args.past.now.count + 1) whys.Grammar h front stands))
+returns-in-None-clause-leaves c = λ text h. (text, record { rest = []; parts = sym (append-nil text); left_is = refl }, λ bytes ls front stands. absurd (read_faultless c.args.task.now text c.args.past.now c.args.lines.now bytes ls (c.args.past.now.count + 1) whys.Grammar h front stands))
