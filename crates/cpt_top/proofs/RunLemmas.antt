@@ -12,11 +12,18 @@ use Rattle.cpt_task_text.specs.Spelling.{spelling}
 use Rattle.cpt_task_text.proofs.Whole.{task_again}
 use Rattle.cpt_reach.specs.declared.pruning.Pruned.{Pruned}
 use Rattle.cpt_reach.specs.Plans.{older_plan}
-use Rattle.cpt_top.specs.Commands.{Answers, Asked, Asks, AsksJudging, AsksListing, AsksValidation, ComesTo, HoldJudgedPlan, HoldKept, HoldValidPlan, IsUsage, IsValidWithAbsence, MayWrite, Reaches, judging, listing, validation}
+use Rattle.cpt_top.specs.Commands.{Answers, Asked, Asks, AsksChecking, AsksJudging, AsksListing, AsksValidation, ComesTo, HoldJudgedPlan, HoldKept, HoldValidPlan, IsUsage, IsValidWithAbsence, MayWrite, Reaches, checking, judging, listing, validation}
 use Rattle.cpt_files.proofs.Giving.{if_some_weaker}
 use Rattle.cpt_files.specs.Lines.{read_line, memory_line, valid_line}
+use Rattle.cpt_cert.specs.declared.forms.Claim.{Claim}
+use Rattle.cpt_cert.specs.declared.forms.Version.{Version}
+use Rattle.cpt_verdict.specs.declared.faults.Why.{Why}
+use Rattle.cpt_verdict.specs.Laws.{HoldsOf}
+use Rattle.cpt_top.specs.Claims.{HoldCertificate, HoldFault, HoldsOverGround, HoldsWithAbsence}
 use Rattle.cpt_top.specs.Printing.{Output, Writes, WritesWhole, WritesFront, WritesAnswer, memory_answer, ended_answer, told}
 use Rattle.cpt_top.specs.Verdicts.{reply_answer}
+use Rattle.cpt_top.specs.Rulings.{accepted_lines, rejected_lines}
+use Rattle.cpt_top.proofs.Certified.{checked_is_zero, fault_is_one, holds_of_kept, holds_over_ground, holds_with_absence, zero_is_checked}
 use Rattle.cpt_top.proofs.Once.{asked_reaches, comes_once}
 use Rattle.cpt_top.proofs.Zero.{judged_is_zero, listed_is_zero, plain_kept, valid_is_zero, with_absence, zero_is_judged, zero_is_listed, zero_is_valid}
 
@@ -391,6 +398,54 @@ judges x = if_some_weaker x.files (Complete x) (JudgesIt x) (judges_in x) (compl
   where
     judges_in : (x : Run) (files : Files) → Complete x files → JudgesIt x files
     judges_in x files whole d p n m asks holds = zero_comes x files (judging d p n) (valid_line m) asks (judged_is_zero files d p n m holds) whole
+
+-- a certificate that is accepted is one of the kept task, and its claim holds
+abbrev pub Checked : Run → Files → Type 0
+Checked x files = (domain_name problem_name cert_name : List ℕ) → AsksChecking x.words domain_name problem_name cert_name → x.status ≡ 0
+    → (version : Version) × (claim : Claim) × (held : HoldCertificate files domain_name problem_name cert_name version claim)
+    × HoldsOf held.kept.task claim held.parts.plan × HoldsOverGround held.task claim (older_plan held.kept.actions held.parts.plan)
+    × HoldsWithAbsence held.domain held.problem claim (older_plan held.kept.actions held.parts.plan) × (x.new.written ≡ append_known x.old.written (accepted_lines version claim))
+
+pub checked : (x : Run) → IfSome x.files (Checked x)
+checked x = if_some_weaker x.files (Only x) (Checked x) (checked_in x) (only x)
+  where
+    checked_in : (x : Run) (files : Files) → Only x files → Checked x files
+    checked_in x files told_only d p c asks zero =
+        let at = zero_of x files (checking d p c) asks told_only zero in
+        let good = zero_is_checked files d p c at.0 at.1 at.2 in (
+          good.0,
+          good.1,
+          good.2,
+          holds_of_kept files d p c good.0 good.1 good.2,
+          holds_over_ground files d p c good.0 good.1 good.2,
+          holds_with_absence files d p c good.0 good.1 good.2,
+          at.3 ∙ ap (append_known x.old.written) good.3,
+        )
+
+-- a certificate is accepted, unless a file cannot be read, a write fails or memory is refused
+abbrev pub Checks : Run → Files → Type 0
+Checks x files = (domain_name problem_name cert_name : List ℕ) (version : Version) (claim : Claim) → AsksChecking x.words domain_name problem_name cert_name → HoldCertificate files domain_name problem_name cert_name version claim
+    → x.new.faults ≡ x.old.faults → (x.now ≡ x.before) ⊎ IsTrue x.steady → (x.status ≡ 9) ⊎ ((x.status ≡ 0) × (x.new.written ≡ append_known x.old.written (accepted_lines version claim)))
+
+pub checks : (x : Run) → IfSome x.files (Checks x)
+checks x = if_some_weaker x.files (Complete x) (Checks x) (checks_in x) (complete x)
+  where
+    checks_in : (x : Run) (files : Files) → Complete x files → Checks x files
+    checks_in x files whole d p c version claim asks holds = zero_comes x files (checking d p c) (accepted_lines version claim) asks (checked_is_zero files d p c version claim holds) whole
+
+-- and a text with a fault is rejected for its first one
+abbrev pub Rejects : Run → Files → Type 0
+Rejects x files = (domain_name problem_name cert_name : List ℕ) (version : Option Version) (line : ℕ) (why : Why) → AsksChecking x.words domain_name problem_name cert_name
+    → HoldFault files domain_name problem_name cert_name version line why → x.new.faults ≡ x.old.faults → (x.now ≡ x.before) ⊎ IsTrue x.steady
+    → (x.status ≡ 9) ⊎ ((x.status ≡ 1) × (x.new.written ≡ append_known x.old.written (rejected_lines version line why)))
+
+pub rejects : (x : Run) → IfSome x.files (Rejects x)
+rejects x = if_some_weaker x.files (Complete x) (Rejects x) (rejects_in x) (complete x)
+  where
+    rejects_in : (x : Run) (files : Files) → Complete x files → Rejects x files
+    rejects_in x files whole d p c version line why asks holds same quiet =
+        let text = rejected_lines version line why in
+        whole (record { status = 1; text = text }) (Ok (record { status = 1; text = text }), inl (checking d p c, asks, fault_is_one files d p c version line why holds), refl) (λ e. cc) same quiet
 
 -- what is listed is the kept task
 abbrev pub Listed : Run → Files → Type 0
