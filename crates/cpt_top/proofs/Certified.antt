@@ -1,4 +1,4 @@
-use Rattle.std.proofs.Common.{◌≡◌, ℕ, ◌≤◌, ◌++◌, List, length, Option, None, Some, Result, Ok, Err, inl, arith, refl, sym, ap, ◌∙◌, subst}
+use Rattle.std.proofs.Common.{◌≡◌, ℕ, ◌≤◌, ◌++◌, List, length, Option, None, Some, Result, Ok, Err, arith, refl, sym, ap, ◌∙◌, subst}
 use Rattle.std.proofs.lemmas.List.Elements.{All-weaker}
 use Rattle.std.specs.List.Sorted.{IsStrictlyIncreasing}
 use Rattle.cpt_io.specs.Meaning.{Files}
@@ -26,14 +26,16 @@ use Rattle.cpt_check.specs.declared.judged.Ruling.TheVariants.{Accepted, Rejecte
 use Rattle.cpt_check.specs.Judging.{IsAccepted, IsRejected, RulesOf}
 use Rattle.cpt_files.specs.declared.accepted.Accepted.{Accepted as Read}
 use Rattle.cpt_files.specs.declared.ending.Ending.{Ending}
+use Rattle.cpt_files.specs.declared.ending.Ending.TheVariants as endings
 use Rattle.cpt_files.specs.Accepted.{AcceptsTask, accepted}
 use Rattle.cpt_files.specs.Ending.{Answer, answer_of}
 use Rattle.cpt_files.specs.Files.{Then, ThenBy}
 use Rattle.cpt_files.proofs.Accepting.{accepted_is, is_accepted}
 use Rattle.cpt_files.proofs.Once.{accepts_once, problem_fits, then_by_once}
+use Rattle.cpt_files.proofs.Statuses.{IsNotOne, accepts_not_one}
 use Rattle.cpt_top.specs.Claims.{HoldCertificate, HoldFault, HoldsOfReading, HoldsOverGround, HoldsWithAbsence}
 use Rattle.cpt_top.specs.Commands.{HoldKept}
-use Rattle.cpt_top.specs.Rulings.{AnswersRuling, ChecksFiles, RulesFile, RulesText, accepted_lines, bytes_of, cert_limit, rejected_lines, ruling_answer, ruling_line, ruling_status, version_line}
+use Rattle.cpt_top.specs.Rulings.{AnswersRuling, ChecksFiles, RulesFile, RulesText, accepted_lines, bytes_of, cert_limit, rejected_line, rejected_lines, ruling_answer, ruling_line, ruling_status, version_line}
 use Rattle.cpt_top.proofs.RulingOnce.{judged, rules_file_once}
 use Rattle.cpt_top.proofs.Zero.{keeps, older_makespan, plain_kept, then_zero}
 
@@ -119,6 +121,9 @@ ruling_zero t text version (Accepted claim) h zero =
     record { named = h.named; claim = claim; size = h.size; accepts = h.accepts; told = ap (λ v. (ruling_answer (judged v (Accepted claim))).text) h.version_is }
 ruling_zero t text version (Rejected line why) h zero = absurd (cc)
 
+same_text : (a b : Answer) (text : List ℕ) → a ≡ b → b.text ≡ text → a.text ≡ text
+same_text a b text e f = ap (λ (a : Answer). a.text) e ∙ f
+
 pub zero_is_checked : (files : Files) (dn pn cn : List ℕ) (r : Result Answer Ending) → ChecksFiles files dn pn cn r → (answer_of r).status ≡ 0
     → (version : Version) × (claim : Claim) × HoldCertificate files dn pn cn version claim × ((answer_of r).text ≡ accepted_lines version claim)
 zero_is_checked files dn pn cn r h zero =
@@ -142,7 +147,7 @@ zero_is_checked files dn pn cn r h zero =
         parts = good.accepts.0;
         certificate = good.accepts.1;
       },
-      ap (λ (a : Answer). a.text) same ∙ good.told,
+      same_text (answer_of r) (ruling_answer j.0) (accepted_lines good.named good.claim) same good.told,
     )
 
 -- what a file that is ruled on comes to
@@ -160,9 +165,54 @@ checked_is_zero files dn pn cn v claim h =
 
 -- and a text with a fault so
 pub fault_is_one : (files : Files) (dn pn cn : List ℕ) (v : Option Version) (line : ℕ) (why : Why) → HoldFault files dn pn cn v line why → ChecksFiles files dn pn cn (Ok (record { status = 1; text = rejected_lines v line why }))
-fault_is_one files dn pn cn v line why h =
-    let rules : IsRejected h.kept.task cert_limit h.text v line why = record { version_is = h.version_is; first = h.first; known = inl h.size } in (
-      Ok (accepted h.domain h.problem h.kept),
-      accepted_is files dn pn h.domain h.problem h.task h.kept h.accepted,
-      (Ok (judged v (Rejected line why)), file_ruled (files cn) h.kept.task h.text (judged v (Rejected line why)) h.cert_file rules, refl),
+fault_is_one files dn pn cn v line why h = (
+  Ok (accepted h.domain h.problem h.kept),
+  accepted_is files dn pn h.domain h.problem h.task h.kept h.accepted,
+  (Ok (judged v (Rejected line why)), file_ruled (files cn) h.kept.task h.text (judged v (Rejected line why)) h.cert_file h.rejected, refl),
+)
+
+-- a text that is not judged ends with another status
+rules_not_one : (o : Option (List ℕ)) (t : TaskShape) (f : Ending) → Then (bytes_of o) (RulesText t) (Err f) → IsNotOne f
+rules_not_one None t f h = let e : f ≡ endings.Read = cc in subst IsNotOne (sym e) (λ z. cc)
+rules_not_one (Some text) t f h = subst IsNotOne (sym h.1) (λ z. cc)
+
+-- a stage before a status of 1 did not end
+then_one : {A : Type 0} (x : Result A Ending) (Q : A → Result Answer Ending → Type 0) (r : Result Answer Ending) → ((f : Ending) → x ≡ Err f → IsNotOne f) → Then x Q r → (answer_of r).status ≡ 1 → (a : A) × (x ≡ Ok a) × Q a r
+then_one (Ok a) Q r not h one = (a, refl, h)
+then_one (Err f) Q r not h one = absurd (not f refl (sym (ap (λ x. (answer_of x).status) h) ∙ one))
+
+-- a status of 1 is that of a text with a fault
+pub record IsFaulty (t : TaskShape) (text : List ℕ) (version : Option Version) (ruling : Ruling) : Type 0 where
+  pub line : ℕ
+  pub why : Why
+  pub rejected : IsRejected t cert_limit text version line why
+  pub told : ruling_line ruling ≡ rejected_line line why
+
+ruling_one : (t : TaskShape) (text : List ℕ) (version : Option Version) (ruling : Ruling) → RulesOf t cert_limit text version ruling → ruling_status ruling ≡ 1 → IsFaulty t text version ruling
+ruling_one t text version (Accepted claim) h one = absurd (cc)
+ruling_one t text version (Rejected line why) h one = record { line = line; why = why; rejected = h; told = refl }
+
+pub one_is_fault : (files : Files) (dn pn cn : List ℕ) (r : Result Answer Ending) → ChecksFiles files dn pn cn r → (answer_of r).status ≡ 1
+    → (version : Option Version) × (line : ℕ) × (why : Why) × HoldFault files dn pn cn version line why × ((answer_of r).text ≡ rejected_lines version line why)
+one_is_fault files dn pn cn r h one =
+    let a = then_one h.0 (λ a. ThenBy (RulesFile files a.kept.task cn) AnswersRuling) r (λ f e. accepts_not_one files dn pn f (subst (AcceptsTask files dn pn) e h.1)) h.2 one in
+    let holds = is_accepted files dn pn a.0 (subst (AcceptsTask files dn pn) a.1 h.1) in
+    let j = then_one a.2.0 AnswersRuling r (λ f e. rules_not_one (files cn) a.0.kept.task f (subst (RulesFile files a.0.kept.task cn) e a.2.1)) a.2.2 one in
+    let read = text_of (files cn) a.0.kept.task j.0 (subst (RulesFile files a.0.kept.task cn) j.1 a.2.1) in
+    let same : answer_of r ≡ ruling_answer j.0 = ap answer_of j.2 in
+    let bad = ruling_one a.0.kept.task read.0 j.0.version j.0.ruling read.2 (sym (ap (λ (a : Answer). a.status) same) ∙ one) in (
+      j.0.version,
+      bad.line,
+      bad.why,
+      record {
+        domain = a.0.domain;
+        problem = a.0.problem;
+        task = holds.0;
+        kept = a.0.kept;
+        accepted = holds.1;
+        text = read.0;
+        cert_file = read.1;
+        rejected = bad.rejected;
+      },
+      same_text (answer_of r) (ruling_answer j.0) (rejected_lines j.0.version bad.line bad.why) same (ap (λ line. version_line j.0.version ++ line) bad.told),
     )

@@ -17,8 +17,7 @@ use Rattle.cpt_cert.specs.declared.forms.Claim.TheVariants.{Optimal, NoneUpTo, N
 use Rattle.cpt_cert.specs.Text.{Parts}
 use Rattle.cpt_verdict.specs.declared.faults.Why.{Why}
 use Rattle.cpt_verdict.specs.Accepting.{IsCertificate}
-use Rattle.cpt_verdict.specs.Texts.{FirstFault}
-use Rattle.cpt_check.specs.Judging.{IsVersionOf}
+use Rattle.cpt_check.specs.Judging.{IsRejected}
 use Rattle.cpt_files.specs.Accepted.{IsAccepted}
 use Rattle.cpt_top.specs.Rulings.{cert_limit}
 
@@ -67,7 +66,8 @@ pub record HoldCertificate (files : Files) (domain_name problem_name cert_name :
   pub certificate : IsCertificate kept.task text version claim parts
 
 -- the two files hold a domain and a problem of it with this kept part of their ground task, and the third file holds a text of this
--- version that has a first fault over the kept part, at this line and for this reason, and that is not too long
+-- version whose first fault over the kept part is at this line, for this reason: the text is not too long, or the fault stands in
+-- lines that end before it is
 pub record HoldFault (files : Files) (domain_name problem_name cert_name : List ℕ) (version : Option Version) (line : ℕ) (why : Why) : Type 0 where
   pub domain : Domain
   pub problem : Problem
@@ -76,6 +76,4 @@ pub record HoldFault (files : Files) (domain_name problem_name cert_name : List 
   pub accepted : IsAccepted files domain_name problem_name domain problem task kept
   pub text : List ℕ
   pub cert_file : files cert_name ≡ Some text
-  pub size : length text ≤ cert_limit
-  pub version_is : IsVersionOf text version
-  pub first : FirstFault kept.task text line why
+  pub rejected : IsRejected kept.task cert_limit text version line why

@@ -122,8 +122,11 @@ pub fn run<L: Library, K: Sink>(alloc: Global, words: &[String], lib: &mut L, ou
     ensures checks { IfSome (L.holds lib.old) (λ files. (domain_name problem_name cert_name : List ℕ) (version : Version) (claim : Claim) → AsksChecking (map string_bytes words.now) domain_name problem_name cert_name
         → HoldCertificate files domain_name problem_name cert_name version claim → K.faults out.new ≡ K.faults out.old → (L.faults lib.new ≡ L.faults lib.old) ⊎ IsTrue (L.steady lib.old)
         → (result ≡ 9) ⊎ ((result ≡ 0) × (K.written out.new ≡ append_known (K.written out.old) (accepted_lines version claim)))) }
-    // Where it holds a text with a first fault it answers 1 with the line and the reason, unless a read or a write fails or memory is
-    // refused.
+    // It answers 1 only where the file holds a text with a first fault, and then its line and reason were written.
+    ensures rejected { IfSome (L.holds lib.old) (λ files. (domain_name problem_name cert_name : List ℕ) → AsksChecking (map string_bytes words.now) domain_name problem_name cert_name → result ≡ 1
+        → (version : Option Version) × (line : ℕ) × (why : Why) × HoldFault files domain_name problem_name cert_name version line why
+        × (K.written out.new ≡ append_known (K.written out.old) (rejected_lines version line why))) }
+    // Where the file does it answers 1, unless a read or a write fails or memory is refused.
     ensures rejects { IfSome (L.holds lib.old) (λ files. (domain_name problem_name cert_name : List ℕ) (version : Option Version) (line : ℕ) (why : Why) → AsksChecking (map string_bytes words.now) domain_name problem_name cert_name
         → HoldFault files domain_name problem_name cert_name version line why → K.faults out.new ≡ K.faults out.old → (L.faults lib.new ≡ L.faults lib.old) ⊎ IsTrue (L.steady lib.old)
         → (result ≡ 9) ⊎ ((result ≡ 1) × (K.written out.new ≡ append_known (K.written out.old) (rejected_lines version line why)))) }

@@ -36,6 +36,7 @@ returns g c =
       lists = lemmas.lists x;
       checked = lemmas.checked x;
       checks = lemmas.checks x;
+      rejected = lemmas.rejected x;
       rejects = lemmas.rejects x;
       only = lemmas.only x;
       complete = lemmas.complete x;
