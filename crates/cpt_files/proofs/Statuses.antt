@@ -1,8 +1,7 @@
 -- what files come to never ends with status 1
-use Rattle.std.proofs.Common.{◌≡◌, ℕ, Bool, true, false, List, Option, None, Some, Result, Ok, Err, refl, sym, subst}
+use Rattle.std.proofs.Common.{◌≡◌, ℕ, Bool, true, false, List, Option, None, Some, Result, Ok, Err, refl, subst}
 use Rattle.std.specs.Prelude.{nat_lt, length, if◌then◌else◌}
 use Rattle.cpt_io.specs.Meaning.{Files}
-use Rattle.cpt_task.specs.Shape.{TaskShape}
 use Rattle.cpt_task.specs.declared.memory.Limit.TheVariants.{File}
 use Rattle.cpt_sexp.specs.declared.item.SexpError.{SexpError}
 use Rattle.cpt_sexp.specs.declared.item.SexpError.TheVariants as sexp_errors

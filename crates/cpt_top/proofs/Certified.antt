@@ -35,7 +35,7 @@ use Rattle.cpt_files.proofs.Once.{accepts_once, problem_fits, then_by_once}
 use Rattle.cpt_files.proofs.Statuses.{IsNotOne, accepts_not_one}
 use Rattle.cpt_top.specs.Claims.{HoldCertificate, HoldFault, HoldsOfReading, HoldsOverGround, HoldsWithAbsence}
 use Rattle.cpt_top.specs.Commands.{HoldKept}
-use Rattle.cpt_top.specs.Rulings.{AnswersRuling, ChecksFiles, RulesFile, RulesText, accepted_lines, bytes_of, cert_limit, rejected_line, rejected_lines, ruling_answer, ruling_line, ruling_status, version_line}
+use Rattle.cpt_top.specs.Rulings.{AnswersRuling, ChecksFiles, RulesFile, RulesText, accepted_lines, bytes_of, cert_limit, rejected_lines, ruling_answer, ruling_line, ruling_status, version_line}
 use Rattle.cpt_top.proofs.RulingOnce.{judged, rules_file_once}
 use Rattle.cpt_top.proofs.Zero.{keeps, older_makespan, plain_kept, then_zero}
 
@@ -67,11 +67,13 @@ over_ground old new actions (Spent refuted nodes) plan k h = (k.refuted refuted)
 
 -- and of a reading with the same plans
 of_reading : (t : TaskShape) (s : Signed) (claim : Claim) (plan : List Occ) → HasSamePlans t s → HoldsOverGround t claim plan → HoldsOfReading s claim plan
-of_reading t s (Optimal m) plan same h =
-    (record {
-      valid = (same.valid plan).0 h.0.valid;
-      least = λ other valid. omega (arith, h.0.least other ((same.valid other).1 valid), same.makespan plan, same.makespan other);
-    }, sym (same.makespan plan) ∙ h.1)
+of_reading t s (Optimal m) plan same h = (
+  record {
+    valid = (same.valid plan).0 h.0.valid;
+    least = λ other valid. omega (arith, h.0.least other ((same.valid other).1 valid), same.makespan plan, same.makespan other);
+  },
+  sym (same.makespan plan) ∙ h.1,
+)
 of_reading t s (NoneUpTo m) plan same h = λ other valid low. h other ((same.valid other).1 valid) (omega (arith, low, same.makespan other))
 of_reading t s Never plan same h = λ other valid. h other ((same.valid other).1 valid)
 of_reading t s (Spent refuted nodes) plan same h = λ other valid low. h other ((same.valid other).1 valid) (omega (arith, low, same.makespan other))
@@ -186,7 +188,7 @@ pub record IsFaulty (t : TaskShape) (text : List ℕ) (version : Option Version)
   pub line : ℕ
   pub why : Why
   pub rejected : IsRejected t cert_limit text version line why
-  pub told : ruling_line ruling ≡ rejected_line line why
+  pub told : version_line version ++ ruling_line ruling ≡ rejected_lines version line why
 
 ruling_one : (t : TaskShape) (text : List ℕ) (version : Option Version) (ruling : Ruling) → RulesOf t cert_limit text version ruling → ruling_status ruling ≡ 1 → IsFaulty t text version ruling
 ruling_one t text version (Accepted claim) h one = absurd (cc)
@@ -214,5 +216,5 @@ one_is_fault files dn pn cn r h one =
         cert_file = read.1;
         rejected = bad.rejected;
       },
-      same_text (answer_of r) (ruling_answer j.0) (rejected_lines j.0.version bad.line bad.why) same (ap (λ line. version_line j.0.version ++ line) bad.told),
+      same_text (answer_of r) (ruling_answer j.0) (rejected_lines j.0.version bad.line bad.why) same bad.told,
     )

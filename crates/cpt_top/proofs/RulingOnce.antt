@@ -1,7 +1,6 @@
-use Rattle.std.proofs.Common.{◌≡◌, ℕ, inl, inr, List, Option, Some, Result, Ok, Err, arith, sym, ap, ◌∙◌, subst}
+use Rattle.std.proofs.Common.{◌≡◌, ℕ, inl, inr, List, Option, Some, Result, Ok, Err, arith, sym, ap, ◌∙◌}
 use Rattle.cpt_io.specs.Meaning.{Files}
 use Rattle.cpt_task.specs.Shape.{TaskShape, InBounds}
-use Rattle.cpt_cert.specs.declared.forms.CertLine.{CertLine}
 use Rattle.cpt_cert.specs.declared.forms.Claim.{Claim}
 use Rattle.cpt_cert.specs.declared.forms.Version.{Version}
 use Rattle.cpt_cert.proofs.Meaning.{one_meaning}
@@ -14,7 +13,6 @@ use Rattle.cpt_check.specs.declared.judged.Ruling.{Ruling}
 use Rattle.cpt_check.specs.declared.judged.Ruling.TheVariants.{Accepted, Rejected}
 use Rattle.cpt_check.specs.Judging.{IsAccepted, IsRejected, IsTooLong, IsVersionOf, RulesOf}
 use Rattle.cpt_files.specs.declared.ending.Ending.{Ending}
-use Rattle.cpt_files.specs.Files.{Then}
 use Rattle.cpt_files.proofs.Once.{then_once}
 use Rattle.cpt_top.specs.Rulings.{RulesFile, RulesText, bytes_under, cert_limit}
 

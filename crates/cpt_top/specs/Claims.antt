@@ -10,7 +10,6 @@ use Rattle.cpt_ground.specs.Reading.{IsReading}
 use Rattle.cpt_ground.specs.declared.signed.Signed.{Signed}
 use Rattle.cpt_ground.specs.Signed.{IsValidSigned, signed_makespan}
 use Rattle.cpt_reach.specs.declared.pruning.Pruned.{Pruned}
-use Rattle.cpt_reach.specs.Plans.{older_plan}
 use Rattle.cpt_cert.specs.declared.forms.Version.{Version}
 use Rattle.cpt_cert.specs.declared.forms.Claim.{Claim}
 use Rattle.cpt_cert.specs.declared.forms.Claim.TheVariants.{Optimal, NoneUpTo, Never, Spent}
