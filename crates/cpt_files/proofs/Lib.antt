@@ -4,3 +4,4 @@ pub mod Naming
 pub mod Once
 pub mod Reading
 pub mod Stages
+pub mod Statuses

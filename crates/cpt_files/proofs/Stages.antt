@@ -1,4 +1,5 @@
-use Rattle.std.proofs.Common.{◌≡◌, ℕ, Bool, List, Option, Result, Ok, Err, IfSome, refl, ap, subst}
+use Rattle.std.proofs.Common.{◌≡◌, ℕ, Bool, List, length, Option, Result, Ok, Err, IfSome, refl, ap, ◌∙◌, subst, arith}
+use Rattle.std.proofs.lemmas.List.{length-map}
 use Rattle.cpt_io.specs.Meaning.{Files}
 use Rattle.cpt_task.specs.Shape.{TaskShape, InBounds}
 use Rattle.cpt_sexp.specs.Grammar.{ForestShape}
@@ -18,12 +19,14 @@ use Rattle.cpt_ground.specs.Grounding.{Grounds}
 use Rattle.cpt_reach.specs.declared.pruning.PruneError.{PruneError}
 use Rattle.cpt_reach.specs.declared.pruning.PruneError.TheVariants as prune_errors
 use Rattle.cpt_reach.specs.declared.pruning.Pruned.{Pruned}
+use Rattle.cpt_reach.specs.Kept.{name_at, renumbered_action}
 use Rattle.cpt_reach.specs.Pruning.{Prunes}
+use Rattle.cpt_reach.specs.Reached.{action_at}
 use Rattle.cpt_files.specs.declared.accepted.Accepted.{Accepted}
 use Rattle.cpt_files.specs.declared.ending.Ending.{Ending}
 use Rattle.cpt_files.specs.declared.ending.Ending.TheVariants.{Passed}
 use Rattle.cpt_files.specs.declared.texts.Source.TheVariants.{OfDomain, OfProblem}
-use Rattle.cpt_files.specs.Accepted.{AcceptsTask, GroundsTo, KeepsTo, PrunesTo, accepted, ground_ending, prune_ending}
+use Rattle.cpt_files.specs.Accepted.{AcceptsTask, GroundsTo, IsSmall, KeepsTo, PrunesTo, accepted, ground_ending, prune_ending}
 use Rattle.cpt_files.specs.Files.{Gives, ThenBy, ended, text_under}
 use Rattle.cpt_files.specs.Texts.{DomainText, DomainUnder, ParsesTo, ProblemText, ProblemUnder, domain_ending, problem_ending}
 use Rattle.cpt_files.proofs.Giving.{gives_and, if_both, if_some_weaker, then_by_error, then_by_ok, then_ok}
@@ -95,6 +98,13 @@ pub keeps_given : (d : Domain) (p : Problem) (t : TaskShape) (kept : Pruned) →
 keeps_given d p t kept g bounds h =
     let prunes : PrunesTo t (Ok kept) = (Ok kept, h, (λ e. cc), refl) in
     (Ok t, grounded d p t g bounds, prunes)
+
+-- the kept part keeps the limits
+pub kept_small : (t : TaskShape) (kept : Pruned) → Prunes t (Ok kept) → IsSmall kept.task
+kept_small t kept h = record {
+  atoms = omega (arith, h.1, ap length h.0.new_atoms ∙ length-map kept.atoms (name_at t));
+  actions = omega (arith, h.2, ap length h.0.new_actions ∙ length-map kept.actions (λ a. renumbered_action kept.atoms (action_at t a)));
+}
 
 -- pruning passes a limit
 pub prune_failed : (steady : Bool) (d : Domain) (p : Problem) (t : TaskShape) (e : PruneError) → Grounds d p (Ok t) → InBounds t → Prunes t (Err e) → Gives steady (λ (k : Pruned). k) (Err (prune_ending e)) (KeepsTo d p)

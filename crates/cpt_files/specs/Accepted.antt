@@ -1,4 +1,4 @@
-use Rattle.std.specs.Prelude.{◌≡◌, ◌≢◌, ℕ, List, Result, Ok, Err, IfOk}
+use Rattle.std.specs.Prelude.{◌≡◌, ◌≢◌, ◌≤◌, ℕ, List, length, Result, Ok, Err, IfOk}
 use Rattle.cpt_io.specs.Meaning.{Files}
 use Rattle.cpt_task.specs.Shape.{TaskShape, InBounds}
 use Rattle.cpt_domain.specs.declared.domain.Domain.{Domain}
@@ -15,6 +15,11 @@ use Rattle.cpt_files.specs.declared.ending.Ending.{Ending}
 use Rattle.cpt_files.specs.declared.ending.Ending.TheVariants.{Passed, Memory}
 use Rattle.cpt_files.specs.Files.{ThenBy, ended}
 use Rattle.cpt_files.specs.Texts.{DomainUnder, ProblemUnder}
+
+-- the task keeps the limits of atoms and actions
+pub record IsSmall (t : TaskShape) : Type 0 where
+  pub atoms : length t.atoms ≤ 2048
+  pub actions : length t.actions ≤ 4096
 
 -- the ending where grounding passes a limit, and where pruning does
 abbrev pub ground_ending : GroundError → Ending

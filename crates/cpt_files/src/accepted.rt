@@ -3,7 +3,7 @@
 ghost use Rattle.std.specs.Prelude.{◌≡◌, ◌≢◌, ◌-◌, ◌^◌, ◌<◌, Bool, IsTrue, IfOk, IfSome};
 ghost use Rattle.cpt_domain.specs.Sound.{IsSound};
 ghost use Rattle.cpt_facts.specs.Fitting.{Fits};
-ghost use Rattle.cpt_files.specs.Accepted.{AcceptsTask, KeepsTo, ground_ending, prune_ending};
+ghost use Rattle.cpt_files.specs.Accepted.{AcceptsTask, IsSmall, KeepsTo, ground_ending, prune_ending};
 ghost use Rattle.cpt_files.specs.Files.{Gives};
 
 use crate::ending::Ending;
@@ -50,6 +50,7 @@ fn kept_part(alloc: Global, domain: &Domain, problem: &Problem) -> Result<Pruned
     requires sound { IsSound domain.now }
     requires fits { Fits domain.now problem.now }
     ensures answer { (steady : Bool) → Gives steady (λ kept. kept) result (KeepsTo domain.now problem.now) }
+    ensures small { IfOk result (λ kept. IsSmall kept.task) }
     ensures known { result ≢ Err Ending.Usage }
     ensures kept { result ≢ Err Ending.Read }
 {
@@ -76,6 +77,7 @@ pub fn accepted_in<L: Library>(
     ensures answer { IfSome (L.holds lib.old) (λ files. Gives (L.steady lib.old) (λ a. a) result (AcceptsTask files domain_name.now problem_name.now)) }
     ensures sound { IfOk result (λ a. IsSound a.domain) }
     ensures fits { IfOk result (λ a. Fits a.domain a.problem) }
+    ensures small { IfOk result (λ a. IsSmall a.kept.task) }
     ensures known { result ≢ Err Ending.Usage }
     ensures failed { result ≡ Err Ending.Read → L.faults lib.old < L.faults lib.new }
     ensures kept { result ≢ Err Ending.Read → L.faults lib.new ≡ L.faults lib.old }

@@ -5,7 +5,7 @@ use std::test::Fail;
 
 #[test]
 fn words_that_ask_for_no_command_are_usage(rt: HostRuntime) -> Result<(), Fail> {
-    let lists: [&[&str]; 17] = [
+    let lists: [&[&str]; 22] = [
         &[],
         &["validate-task"],
         &["validate-task", "t"],
@@ -22,6 +22,11 @@ fn words_that_ask_for_no_command_are_usage(rt: HostRuntime) -> Result<(), Fail> 
         &["validate", "t", "p", ""],
         &["validate", "-t", "p", "q"],
         &["validate", "t", "p", "p", "p"],
+        &["check", "t", "p"],
+        &["check", "t", "p", "p", "p"],
+        &["check", "t", "p", ""],
+        &["check", "-t", "p", "p"],
+        &["check", "t", "-p", "p"],
         &["--help"],
     ];
     for words in lists {

@@ -9,7 +9,8 @@ use Rattle.cpt_files.specs.Ending.{Answer, answer_of}
 use Rattle.cpt_files.specs.Files.{Then, task_under, plan_under}
 use Rattle.cpt_files.proofs.Once.{accepts_once, then_by_once, then_once}
 use Rattle.cpt_task_text.specs.Spelling.{spelling}
-use Rattle.cpt_top.specs.Commands.{Asked, Asks, ComesTo, OneAnswer, Reaches, judging, listing, validation}
+use Rattle.cpt_top.specs.Commands.{Asked, Asks, ComesTo, OneAnswer, Reaches, checking, judging, listing, validation}
+use Rattle.cpt_top.proofs.Certified.{checks_files_once}
 use Rattle.cpt_top.specs.Verdicts.{AnswersVerdict, JudgesFiles, JudgesPlan, ListsTask, accepted_plan, verdict_answer}
 
 -- words ask for one command, with one name for each file
@@ -20,6 +21,7 @@ one_asked words (validation t p) (validation u q) a b =
     ap first (cc (a.words_are, b.words_are)) ∙ ap second (cc (a.words_are, b.words_are))
 one_asked words (validation t p) (judging e q o) a b = absurd (cc (a.words_are, b.words_are))
 one_asked words (validation t p) (listing e q) a b = absurd (cc (a.words_are, b.words_are))
+one_asked words (validation t p) (checking e q o) a b = absurd (cc (a.words_are, b.words_are))
 one_asked words (judging d p n) (validation u q) a b = absurd (cc (a.words_are, b.words_are))
 one_asked words (judging d p n) (judging e q o) a b =
     let first : List ℕ → Asked = λ x. judging x p n in
@@ -27,12 +29,22 @@ one_asked words (judging d p n) (judging e q o) a b =
     let third : List ℕ → Asked = λ x. judging e q x in
     ap first (cc (a.words_are, b.words_are)) ∙ ap second (cc (a.words_are, b.words_are)) ∙ ap third (cc (a.words_are, b.words_are))
 one_asked words (judging d p n) (listing e q) a b = absurd (cc (a.words_are, b.words_are))
+one_asked words (judging d p n) (checking e q o) a b = absurd (cc (a.words_are, b.words_are))
 one_asked words (listing d p) (validation u q) a b = absurd (cc (a.words_are, b.words_are))
 one_asked words (listing d p) (judging e q o) a b = absurd (cc (a.words_are, b.words_are))
 one_asked words (listing d p) (listing e q) a b =
     let first : List ℕ → Asked = λ x. listing x p in
     let second : List ℕ → Asked = λ x. listing e x in
     ap first (cc (a.words_are, b.words_are)) ∙ ap second (cc (a.words_are, b.words_are))
+one_asked words (listing d p) (checking e q o) a b = absurd (cc (a.words_are, b.words_are))
+one_asked words (checking d p c) (validation u q) a b = absurd (cc (a.words_are, b.words_are))
+one_asked words (checking d p c) (judging e q o) a b = absurd (cc (a.words_are, b.words_are))
+one_asked words (checking d p c) (listing e q) a b = absurd (cc (a.words_are, b.words_are))
+one_asked words (checking d p c) (checking e q o) a b =
+    let first : List ℕ → Asked = λ x. checking x p c in
+    let second : List ℕ → Asked = λ x. checking e x c in
+    let third : List ℕ → Asked = λ x. checking e q x in
+    ap first (cc (a.words_are, b.words_are)) ∙ ap second (cc (a.words_are, b.words_are)) ∙ ap third (cc (a.words_are, b.words_are))
 
 verdict_once : (task : TaskShape) (plan : PlanText) (r s : Result Answer Ending) → AnswersVerdict task plan r → AnswersVerdict task plan s → r ≡ s
 verdict_once task plan r s h k = h.2 ∙ ap (λ v. Ok (verdict_answer task plan v)) (one_verdict task plan.occs h.0 k.0 h.1 k.1) ∙ sym k.2
@@ -57,6 +69,7 @@ reaches_once : (files : Files) (asked : Asked) (r s : Result Answer Ending) → 
 reaches_once files (validation t p) r s = judges_files_once files t p r s
 reaches_once files (judging d p n) r s = judges_plan_once files d p n r s
 reaches_once files (listing d p) r s = lists_task_once files d p r s
+reaches_once files (checking d p c) r s = checks_files_once files d p c r s
 
 -- what the words come to is what the command comes to that they ask for
 pub asked_reaches : (files : Files) (words : List (List ℕ)) (asked : Asked) (r : Result Answer Ending) → Asks words asked → ComesTo files words r → Reaches files asked r

@@ -12,11 +12,18 @@ use Rattle.cpt_task_text.specs.Spelling.{spelling}
 use Rattle.cpt_task_text.proofs.Whole.{task_again}
 use Rattle.cpt_reach.specs.declared.pruning.Pruned.{Pruned}
 use Rattle.cpt_reach.specs.Plans.{older_plan}
-use Rattle.cpt_top.specs.Commands.{Answers, Asked, Asks, AsksJudging, AsksListing, AsksValidation, ComesTo, HoldJudgedPlan, HoldKept, HoldValidPlan, IsUsage, IsValidWithAbsence, MayWrite, Reaches, judging, listing, validation}
+use Rattle.cpt_top.specs.Commands.{Answers, Asked, Asks, AsksChecking, AsksJudging, AsksListing, AsksValidation, ComesTo, HoldJudgedPlan, HoldKept, HoldValidPlan, IsUsage, IsValidWithAbsence, MayWrite, Reaches, checking, judging, listing, validation}
 use Rattle.cpt_files.proofs.Giving.{if_some_weaker}
 use Rattle.cpt_files.specs.Lines.{read_line, memory_line, valid_line}
+use Rattle.cpt_cert.specs.declared.forms.Claim.{Claim}
+use Rattle.cpt_cert.specs.declared.forms.Version.{Version}
+use Rattle.cpt_verdict.specs.declared.faults.Why.{Why}
+use Rattle.cpt_verdict.specs.Laws.{HoldsOf}
+use Rattle.cpt_top.specs.Claims.{HoldCertificate, HoldFault, HoldsOverGround, HoldsWithAbsence}
 use Rattle.cpt_top.specs.Printing.{Output, Writes, WritesWhole, WritesFront, WritesAnswer, memory_answer, ended_answer, told}
 use Rattle.cpt_top.specs.Verdicts.{reply_answer}
+use Rattle.cpt_top.specs.Rulings.{accepted_lines, rejected_lines}
+use Rattle.cpt_top.proofs.Certified.{checked_is_zero, fault_is_one, holds_of_kept, holds_over_ground, holds_with_absence, one_is_fault, zero_is_checked}
 use Rattle.cpt_top.proofs.Once.{asked_reaches, comes_once}
 use Rattle.cpt_top.proofs.Zero.{judged_is_zero, listed_is_zero, plain_kept, valid_is_zero, with_absence, zero_is_judged, zero_is_listed, zero_is_valid}
 
@@ -323,23 +330,23 @@ front x = if_some_weaker x.files (λ files. Gives x.steady reply_answer x.r (Com
       ]
     ]
 
--- the answer was 0: what the command came to, and its text
-zero_of : (x : Run) (files : Files) (asked : Asked) → Asks x.words asked → Only x files → x.status ≡ 0
-    → (r : Result Answer Ending) × Reaches files asked r × ((answer_of r).status ≡ 0) × (x.new.written ≡ append_known x.old.written (answer_of r).text)
-zero_of x files asked asks told_only zero =
-    let told_text = told_only (omega (arith, zero)) in
+-- the answer had a status below 7: what the command came to, and its text
+told_of : (x : Run) (files : Files) (asked : Asked) (s : ℕ) → s < 7 → Asks x.words asked → Only x files → x.status ≡ s
+    → (r : Result Answer Ending) × Reaches files asked r × ((answer_of r).status ≡ s) × (x.new.written ≡ append_known x.old.written (answer_of r).text)
+told_of x files asked s low asks told_only is =
+    let told_text = told_only (omega (arith, is, low)) in
     let answers : Answers files x.words (record { status = x.status; text = told_text.0 }) = told_text.1 in (
       answers.0,
       asked_reaches files x.words asked answers.0 asks answers.1,
-      sym (ap (λ (a : Answer). a.status) answers.2) ∙ zero,
+      sym (ap (λ (a : Answer). a.status) answers.2) ∙ is,
       told_text.2 ∙ ap (append_known x.old.written) (ap (λ (a : Answer). a.text) answers.2),
     )
 
--- a command that reaches status 0 is answered so
-zero_comes : (x : Run) (files : Files) (asked : Asked) (text : List ℕ) → Asks x.words asked → Reaches files asked (Ok (record { status = 0; text = text })) → Complete x files
-    → x.new.faults ≡ x.old.faults → (x.now ≡ x.before) ⊎ IsTrue x.steady → (x.status ≡ 9) ⊎ ((x.status ≡ 0) × (x.new.written ≡ append_known x.old.written text))
-zero_comes x files asked text asks reaches whole same quiet =
-    whole (record { status = 0; text = text }) (Ok (record { status = 0; text = text }), inl (asked, asks, reaches), refl) (λ e. cc) same quiet
+-- a command that reaches a status is answered so, where it is not that of a failed reading
+comes_with : (x : Run) (files : Files) (asked : Asked) (s : ℕ) (text : List ℕ) → s ≢ 7 → Asks x.words asked → Reaches files asked (Ok (record { status = s; text = text })) → Complete x files
+    → x.new.faults ≡ x.old.faults → (x.now ≡ x.before) ⊎ IsTrue x.steady → (x.status ≡ 9) ⊎ ((x.status ≡ s) × (x.new.written ≡ append_known x.old.written text))
+comes_with x files asked s text not asks reaches whole same quiet =
+    whole (record { status = s; text = text }) (Ok (record { status = s; text = text }), inl (asked, asks, reaches), refl) not same quiet
 
 -- a plan that is judged valid is valid, and its line was written
 abbrev pub Validated : Run → Files → Type 0
@@ -351,7 +358,7 @@ validated x = if_some_weaker x.files (Only x) (Validated x) (validated_in x) (on
   where
     validated_in : (x : Run) (files : Files) → Only x files → Validated x files
     validated_in x files told_only t p asks zero =
-        let at = zero_of x files (validation t p) asks told_only zero in
+        let at = told_of x files (validation t p) 0 (omega arith) asks told_only zero in
         let valid = zero_is_valid files t p at.0 at.1 at.2 in
         (valid.0, valid.1, at.3 ∙ ap (append_known x.old.written) valid.2)
 
@@ -364,7 +371,7 @@ pub validates : (x : Run) → IfSome x.files (Validates x)
 validates x = if_some_weaker x.files (Complete x) (Validates x) (validates_in x) (complete x)
   where
     validates_in : (x : Run) (files : Files) → Complete x files → Validates x files
-    validates_in x files whole t p m asks holds = zero_comes x files (validation t p) (valid_line m) asks (valid_is_zero files t p m holds) whole
+    validates_in x files whole t p m asks holds = comes_with x files (validation t p) 0 (valid_line m) (λ e. cc) asks (valid_is_zero files t p m holds) whole
 
 -- a plan that is judged valid over a domain and a problem is valid for their ground task and for their reading with absence
 abbrev pub Judged : Run → Files → Type 0
@@ -377,7 +384,7 @@ judged x = if_some_weaker x.files (Only x) (Judged x) (judged_in x) (only x)
   where
     judged_in : (x : Run) (files : Files) → Only x files → Judged x files
     judged_in x files told_only d p n asks zero =
-        let at = zero_of x files (judging d p n) asks told_only zero in
+        let at = told_of x files (judging d p n) 0 (omega arith) asks told_only zero in
         let valid = zero_is_judged files d p n at.0 at.1 at.2 in
         (valid.0, valid.1, with_absence files d p n valid.0 valid.1, at.3 ∙ ap (append_known x.old.written) valid.2)
 
@@ -390,7 +397,68 @@ pub judges : (x : Run) → IfSome x.files (JudgesIt x)
 judges x = if_some_weaker x.files (Complete x) (JudgesIt x) (judges_in x) (complete x)
   where
     judges_in : (x : Run) (files : Files) → Complete x files → JudgesIt x files
-    judges_in x files whole d p n m asks holds = zero_comes x files (judging d p n) (valid_line m) asks (judged_is_zero files d p n m holds) whole
+    judges_in x files whole d p n m asks holds = comes_with x files (judging d p n) 0 (valid_line m) (λ e. cc) asks (judged_is_zero files d p n m holds) whole
+
+-- a certificate that is accepted is one of the kept task, and its claim holds
+abbrev pub Checked : Run → Files → Type 0
+Checked x files = (domain_name problem_name cert_name : List ℕ) → AsksChecking x.words domain_name problem_name cert_name → x.status ≡ 0
+    → (version : Version) × (claim : Claim) × (held : HoldCertificate files domain_name problem_name cert_name version claim)
+    × HoldsOf held.kept.task claim held.parts.plan × HoldsOverGround held.task claim (older_plan held.kept.actions held.parts.plan)
+    × HoldsWithAbsence held.domain held.problem claim (older_plan held.kept.actions held.parts.plan) × (x.new.written ≡ append_known x.old.written (accepted_lines version claim))
+
+pub checked : (x : Run) → IfSome x.files (Checked x)
+checked x = if_some_weaker x.files (Only x) (Checked x) (checked_in x) (only x)
+  where
+    checked_in : (x : Run) (files : Files) → Only x files → Checked x files
+    checked_in x files told_only d p c asks zero =
+        let at = told_of x files (checking d p c) 0 (omega arith) asks told_only zero in
+        let good = zero_is_checked files d p c at.0 at.1 at.2 in (
+          good.0,
+          good.1,
+          good.2,
+          holds_of_kept files d p c good.0 good.1 good.2,
+          holds_over_ground files d p c good.0 good.1 good.2,
+          holds_with_absence files d p c good.0 good.1 good.2,
+          at.3 ∙ ap (append_known x.old.written) good.3,
+        )
+
+-- a certificate is accepted, unless a file cannot be read, a write fails or memory is refused
+abbrev pub Checks : Run → Files → Type 0
+Checks x files = (domain_name problem_name cert_name : List ℕ) (version : Version) (claim : Claim) → AsksChecking x.words domain_name problem_name cert_name → HoldCertificate files domain_name problem_name cert_name version claim
+    → x.new.faults ≡ x.old.faults → (x.now ≡ x.before) ⊎ IsTrue x.steady → (x.status ≡ 9) ⊎ ((x.status ≡ 0) × (x.new.written ≡ append_known x.old.written (accepted_lines version claim)))
+
+pub checks : (x : Run) → IfSome x.files (Checks x)
+checks x = if_some_weaker x.files (Complete x) (Checks x) (checks_in x) (complete x)
+  where
+    checks_in : (x : Run) (files : Files) → Complete x files → Checks x files
+    checks_in x files whole d p c version claim asks holds = comes_with x files (checking d p c) 0 (accepted_lines version claim) (λ e. cc) asks (checked_is_zero files d p c version claim holds) whole
+
+-- a text that is rejected has a fault, and it is the first
+abbrev pub Rejected : Run → Files → Type 0
+Rejected x files = (domain_name problem_name cert_name : List ℕ) → AsksChecking x.words domain_name problem_name cert_name → x.status ≡ 1
+    → (version : Option Version) × (line : ℕ) × (why : Why) × HoldFault files domain_name problem_name cert_name version line why × (x.new.written ≡ append_known x.old.written (rejected_lines version line why))
+
+pub rejected : (x : Run) → IfSome x.files (Rejected x)
+rejected x = if_some_weaker x.files (Only x) (Rejected x) (rejected_in x) (only x)
+  where
+    rejected_in : (x : Run) (files : Files) → Only x files → Rejected x files
+    rejected_in x files told_only d p c asks one =
+        let at = told_of x files (checking d p c) 1 (omega arith) asks told_only one in
+        let bad = one_is_fault files d p c at.0 at.1 at.2 in
+        (bad.0, bad.1, bad.2, bad.3, at.3 ∙ ap (append_known x.old.written) bad.4)
+
+-- a text with a fault is rejected for its first one, unless a file cannot be read, a write fails or memory is refused
+abbrev pub Rejects : Run → Files → Type 0
+Rejects x files = (domain_name problem_name cert_name : List ℕ) (version : Option Version) (line : ℕ) (why : Why) → AsksChecking x.words domain_name problem_name cert_name
+    → HoldFault files domain_name problem_name cert_name version line why → x.new.faults ≡ x.old.faults → (x.now ≡ x.before) ⊎ IsTrue x.steady
+    → (x.status ≡ 9) ⊎ ((x.status ≡ 1) × (x.new.written ≡ append_known x.old.written (rejected_lines version line why)))
+
+pub rejects : (x : Run) → IfSome x.files (Rejects x)
+rejects x = if_some_weaker x.files (Complete x) (Rejects x) (rejects_in x) (complete x)
+  where
+    rejects_in : (x : Run) (files : Files) → Complete x files → Rejects x files
+    rejects_in x files whole d p c version line why asks holds =
+        comes_with x files (checking d p c) 1 (rejected_lines version line why) (λ e. cc) asks (fault_is_one files d p c version line why holds) whole
 
 -- what is listed is the kept task
 abbrev pub Listed : Run → Files → Type 0
@@ -402,7 +470,7 @@ listed x = if_some_weaker x.files (Only x) (Listed x) (listed_in x) (only x)
   where
     listed_in : (x : Run) (files : Files) → Only x files → Listed x files
     listed_in x files told_only d p asks zero =
-        let at = zero_of x files (listing d p) asks told_only zero in
+        let at = told_of x files (listing d p) 0 (omega arith) asks told_only zero in
         let kept = zero_is_listed files d p at.0 at.1 at.2 in
         let plain : IsPlain kept.0.task = plain_kept files d p kept.0 kept.1 in
         (kept.0, kept.1, plain, task_again kept.0.task plain, at.3 ∙ ap (append_known x.old.written) kept.2)
@@ -416,4 +484,4 @@ pub lists : (x : Run) → IfSome x.files (Lists x)
 lists x = if_some_weaker x.files (Complete x) (Lists x) (lists_in x) (complete x)
   where
     lists_in : (x : Run) (files : Files) → Complete x files → Lists x files
-    lists_in x files whole d p kept asks holds = zero_comes x files (listing d p) (spelling kept.task) asks (listed_is_zero files d p kept holds) whole
+    lists_in x files whole d p kept asks holds = comes_with x files (listing d p) 0 (spelling kept.task) (λ e. cc) asks (listed_is_zero files d p kept holds) whole

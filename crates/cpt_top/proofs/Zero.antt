@@ -54,7 +54,7 @@ not_zero_ending Read z = cc
 not_zero_ending Memory z = cc
 
 -- a stage before a status of 0 did not end
-then_zero : {A : Type 0} (x : Result A Ending) (Q : A → Result Answer Ending → Type 0) (r : Result Answer Ending) → Then x Q r → (answer_of r).status ≡ 0 → (a : A) × (x ≡ Ok a) × Q a r
+pub then_zero : {A : Type 0} (x : Result A Ending) (Q : A → Result Answer Ending → Type 0) (r : Result Answer Ending) → Then x Q r → (answer_of r).status ≡ 0 → (a : A) × (x ≡ Ok a) × Q a r
 then_zero (Ok a) Q r h zero = (a, refl, h)
 then_zero (Err e) Q r h zero = absurd (not_zero_ending e (sym (ap (λ x. (answer_of x).status) h) ∙ zero))
 
@@ -88,7 +88,7 @@ valid_is_zero files t p m h =
     (subst (λ (y : Result PlanText Ending). Then y (AnswersVerdict h.task) (Ok (record { status = 0; text = valid_line m }))) (sym h.plan_file) judged)
 
 -- the kept part of an accepted task has its plans
-keeps : (files : Files) (dn pn : List ℕ) (d : Domain) (p : Problem) (task : TaskShape) (kept : Pruned) → IsAccepted files dn pn d p task kept → KeepsPlans task kept.task kept.actions
+pub keeps : (files : Files) (dn pn : List ℕ) (d : Domain) (p : Problem) (task : TaskShape) (kept : Pruned) → IsAccepted files dn pn d p task kept → KeepsPlans task kept.task kept.actions
 keeps files dn pn d p task kept a = keeps_plans task kept.task kept.atoms kept.actions a.bounds a.prunes.0
 
 -- a plan that is valid for the kept task is valid for the ground task
@@ -97,7 +97,7 @@ older_valid old new actions plan k of_task valid =
     let onto = k.onto plan of_task in
     (k.valid (older_plan actions plan)).1 (onto.0, subst (IsValid new) (sym onto.1) valid)
 
-older_makespan : (old new : TaskShape) (actions : List ℕ) (plan : List Occ) → KeepsPlans old new actions → IsPlan new plan → makespan new plan ≡ makespan old (older_plan actions plan)
+pub older_makespan : (old new : TaskShape) (actions : List ℕ) (plan : List Occ) → KeepsPlans old new actions → IsPlan new plan → makespan new plan ≡ makespan old (older_plan actions plan)
 older_makespan old new actions plan k of_task =
     let onto = k.onto plan of_task in
     ap (makespan new) (sym onto.1) ∙ k.same_makespan (older_plan actions plan) onto.0

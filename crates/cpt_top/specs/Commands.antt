@@ -19,7 +19,8 @@ use Rattle.cpt_files.specs.Files.{task_under, plan_by, plan_under}
 use Rattle.cpt_files.specs.Lines.{read_line, memory_line}
 use Rattle.cpt_files.specs.Names.{kept_finds}
 use Rattle.cpt_top.specs.declared.words.Command.{Command}
-use Rattle.cpt_top.specs.declared.words.Command.TheVariants.{ValidateTask, Validate, Ground}
+use Rattle.cpt_top.specs.declared.words.Command.TheVariants.{ValidateTask, Validate, Ground, Check}
+use Rattle.cpt_top.specs.Rulings.{ChecksFiles}
 use Rattle.cpt_top.specs.Verdicts.{JudgesFiles, JudgesPlan, ListsTask}
 
 -- a word that can name a file: not empty, and it does not begin with a dash
@@ -46,29 +47,40 @@ pub record AsksListing (words : List (List ℕ)) (domain_name problem_name : Lis
   pub domain_named : is_file_name domain_name ≡ true
   pub problem_named : is_file_name problem_name ≡ true
 
+-- the words ask to check the certificate of the third name over the domain and the problem of the first two
+pub record AsksChecking (words : List (List ℕ)) (domain_name problem_name cert_name : List ℕ) : Type 0 where
+  pub words_are : words ≡ codes "check" ∷ domain_name ∷ problem_name ∷ cert_name ∷ []
+  pub domain_named : is_file_name domain_name ≡ true
+  pub problem_named : is_file_name problem_name ≡ true
+  pub cert_named : is_file_name cert_name ≡ true
+
 -- a command with the names of its files
 pub data Asked : Type 0 where
   validation : (task_name plan_name : List ℕ) → Asked
   judging : (domain_name problem_name plan_name : List ℕ) → Asked
   listing : (domain_name problem_name : List ℕ) → Asked
+  checking : (domain_name problem_name cert_name : List ℕ) → Asked
 
 -- a command of the code
 abbrev pub asked_of : Command → Asked
 asked_of (ValidateTask task_name plan_name) = validation task_name.now plan_name.now
 asked_of (Validate domain_name problem_name plan_name) = judging domain_name.now problem_name.now plan_name.now
 asked_of (Ground domain_name problem_name) = listing domain_name.now problem_name.now
+asked_of (Check domain_name problem_name cert_name) = checking domain_name.now problem_name.now cert_name.now
 
 -- the words ask for this
 abbrev pub Asks : List (List ℕ) → Asked → Type 0
 Asks words (validation task_name plan_name) = AsksValidation words task_name plan_name
 Asks words (judging domain_name problem_name plan_name) = AsksJudging words domain_name problem_name plan_name
 Asks words (listing domain_name problem_name) = AsksListing words domain_name problem_name
+Asks words (checking domain_name problem_name cert_name) = AsksChecking words domain_name problem_name cert_name
 
 -- what a command comes to over the files
 abbrev pub Reaches : Files → Asked → Result Answer Ending → Type 0
 Reaches files (validation task_name plan_name) = JudgesFiles files task_name plan_name
 Reaches files (judging domain_name problem_name plan_name) = JudgesPlan files domain_name problem_name plan_name
 Reaches files (listing domain_name problem_name) = ListsTask files domain_name problem_name
+Reaches files (checking domain_name problem_name cert_name) = ChecksFiles files domain_name problem_name cert_name
 
 -- the words ask for no command
 abbrev pub IsUsage : List (List ℕ) → Type 0

@@ -1,3 +1,5 @@
+pub mod Claims
 pub mod Commands
 pub mod Printing
+pub mod Rulings
 pub mod Verdicts

@@ -1,9 +1,11 @@
 //! The commands.
 #![tactic(auto)]
 
+mod checking;
 mod laws;
 mod listing;
 mod printing;
+mod rulings;
 mod running;
 mod validating;
 mod verdicts;

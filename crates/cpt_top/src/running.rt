@@ -1,6 +1,6 @@
 //! The program's one call.
 
-ghost use Rattle.std.specs.Prelude.{◌≡◌, ◌≢◌, ◌↔◌, ◌⊎◌, ◌-◌, ◌^◌, ◌<◌, ◌≤◌, List, ℕ, map, IfOk, IfSome, IsTrue, string_bytes};
+ghost use Rattle.std.specs.Prelude.{◌≡◌, ◌≢◌, ◌↔◌, ◌⊎◌, ◌-◌, ◌^◌, ◌<◌, ◌≤◌, List, ℕ, map, Option, IfOk, IfSome, IsTrue, string_bytes};
 ghost use Rattle.std.specs.Io.KnownBytes.{append_known};
 ghost use Rattle.cpt_io.specs.Meaning.{AppendsFront};
 ghost use Rattle.cpt_reach.specs.declared.pruning.Pruned.{Pruned};
@@ -8,13 +8,20 @@ ghost use Rattle.cpt_reach.specs.Plans.{older_plan};
 ghost use Rattle.cpt_task_text.specs.Plain.{IsPlain};
 ghost use Rattle.cpt_task_text.specs.Reading.{task_of};
 ghost use Rattle.cpt_task_text.specs.Spelling.{spelling};
-ghost use Rattle.cpt_top.specs.Commands.{Answers, AsksJudging, AsksListing, AsksValidation, ComesTo, HoldJudgedPlan, HoldKept, HoldValidPlan, IsUsage, IsValidWithAbsence, MayWrite, Reaches, asked_of};
+ghost use Rattle.cpt_top.specs.Commands.{Answers, AsksChecking, AsksJudging, AsksListing, AsksValidation, ComesTo, HoldJudgedPlan, HoldKept, HoldValidPlan, IsUsage, IsValidWithAbsence, MayWrite, Reaches, asked_of};
 ghost use Rattle.cpt_files.specs.Ending.{Answer};
 ghost use Rattle.cpt_files.specs.Files.{Gives};
 ghost use Rattle.cpt_files.specs.Lines.{memory_line, read_line, valid_line};
+ghost use Rattle.cpt_cert.specs.declared.forms.Version.{Version};
+ghost use Rattle.cpt_cert.specs.declared.forms.Claim.{Claim};
+ghost use Rattle.cpt_verdict.specs.declared.faults.Why.{Why};
+ghost use Rattle.cpt_verdict.specs.Laws.{HoldsOf};
+ghost use Rattle.cpt_top.specs.Claims.{HoldCertificate, HoldFault, HoldsOverGround, HoldsWithAbsence};
 ghost use Rattle.cpt_top.specs.Printing.{ended_answer, output, Writes, WritesAnswer};
+ghost use Rattle.cpt_top.specs.Rulings.{accepted_lines, rejected_lines};
 ghost use Rattle.cpt_top.specs.Verdicts.{reply_answer};
 
+use crate::checking::check_files;
 use crate::listing::list_task;
 use crate::printing::{put_ending, put_reply};
 use crate::validating::{judge_files, judge_problem};
@@ -39,6 +46,7 @@ fn reply_to<L: Library>(alloc: Global, command: Command<'_>, lib: &mut L) -> Res
             judge_problem(alloc, domain, problem, plan, lib)
         }
         Command::Ground(domain, problem) => list_task(alloc, domain, problem, lib),
+        Command::Check(domain, problem, cert) => check_files(alloc, domain, problem, cert, lib),
     }
 }
 
@@ -102,6 +110,26 @@ pub fn run<L: Library, K: Sink>(alloc: Global, words: &[String], lib: &mut L, ou
     ensures lists { IfSome (L.holds lib.old) (λ files. (domain_name problem_name : List ℕ) (kept : Pruned) → AsksListing (map string_bytes words.now) domain_name problem_name
         → HoldKept files domain_name problem_name kept → K.faults out.new ≡ K.faults out.old → (L.faults lib.new ≡ L.faults lib.old) ⊎ IsTrue (L.steady lib.old)
         → (result ≡ 9) ⊎ ((result ≡ 0) × (K.written out.new ≡ append_known (K.written out.old) (spelling kept.task)))) }
+
+    // `check` answers 0 only where the file holds a certificate of the kept task whose claim holds, over the ground task and over the
+    // reading with absence, and then its two lines were written.
+    ensures checked { IfSome (L.holds lib.old) (λ files. (domain_name problem_name cert_name : List ℕ) → AsksChecking (map string_bytes words.now) domain_name problem_name cert_name → result ≡ 0
+        → (version : Version) × (claim : Claim) × (held : HoldCertificate files domain_name problem_name cert_name version claim)
+        × HoldsOf held.kept.task claim held.parts.plan × HoldsOverGround held.task claim (older_plan held.kept.actions held.parts.plan)
+        × HoldsWithAbsence held.domain held.problem claim (older_plan held.kept.actions held.parts.plan)
+        × (K.written out.new ≡ append_known (K.written out.old) (accepted_lines version claim))) }
+    // Where the file holds a certificate it answers 0, unless a read or a write fails or memory is refused.
+    ensures checks { IfSome (L.holds lib.old) (λ files. (domain_name problem_name cert_name : List ℕ) (version : Version) (claim : Claim) → AsksChecking (map string_bytes words.now) domain_name problem_name cert_name
+        → HoldCertificate files domain_name problem_name cert_name version claim → K.faults out.new ≡ K.faults out.old → (L.faults lib.new ≡ L.faults lib.old) ⊎ IsTrue (L.steady lib.old)
+        → (result ≡ 9) ⊎ ((result ≡ 0) × (K.written out.new ≡ append_known (K.written out.old) (accepted_lines version claim)))) }
+    // It answers 1 only where the file holds a text with a first fault, and then its line and reason were written.
+    ensures rejected { IfSome (L.holds lib.old) (λ files. (domain_name problem_name cert_name : List ℕ) → AsksChecking (map string_bytes words.now) domain_name problem_name cert_name → result ≡ 1
+        → (version : Option Version) × (line : ℕ) × (why : Why) × HoldFault files domain_name problem_name cert_name version line why
+        × (K.written out.new ≡ append_known (K.written out.old) (rejected_lines version line why))) }
+    // Where the file does it answers 1, unless a read or a write fails or memory is refused.
+    ensures rejects { IfSome (L.holds lib.old) (λ files. (domain_name problem_name cert_name : List ℕ) (version : Option Version) (line : ℕ) (why : Why) → AsksChecking (map string_bytes words.now) domain_name problem_name cert_name
+        → HoldFault files domain_name problem_name cert_name version line why → K.faults out.new ≡ K.faults out.old → (L.faults lib.new ≡ L.faults lib.old) ⊎ IsTrue (L.steady lib.old)
+        → (result ≡ 9) ⊎ ((result ≡ 1) × (K.written out.new ≡ append_known (K.written out.old) (rejected_lines version line why)))) }
 
     // A status below 7 comes only where it is the answer to the words over the files, and then the answer's text was written.
     ensures only { IfSome (L.holds lib.old) (λ files. result < 7

@@ -1,7 +1,7 @@
 //! The words of the command line.
 
 ghost use Rattle.std.specs.Prelude.{◌≡◌, ◌↔◌, map, IsTrue, MatchOption, string_bytes};
-ghost use Rattle.cpt_top.specs.Commands.{AsksJudging, AsksListing, AsksValidation, Asks, IsUsage, asked_of, is_file_name};
+ghost use Rattle.cpt_top.specs.Commands.{AsksChecking, AsksJudging, AsksListing, AsksValidation, Asks, IsUsage, asked_of, is_file_name};
 
 /// What the words ask for, with the names of its files.
 #[derive(Clone, Copy)]
@@ -12,6 +12,8 @@ pub enum Command<'a> {
     Validate(&'a str, &'a str, &'a str),
     /// To list the kept task of the domain and the problem.
     Ground(&'a str, &'a str),
+    /// To check the certificate of the third name over the domain and the problem of the first two.
+    Check(&'a str, &'a str, &'a str),
 }
 
 /// Whether the word is a name and no option.
@@ -65,6 +67,22 @@ fn judging(words: &[String]) -> Option<(&str, &str, &str)>
     None
 }
 
+/// The names of the domain, the problem and the certificate, where it is asked to be checked.
+fn checking(words: &[String]) -> Option<(&str, &str, &str)>
+    ensures { MatchOption result ((d p c : _) → AsksChecking (map string_bytes words.now) d p c → ⊥) (λ names. AsksChecking (map string_bytes words.now) names.0.now names.1.now names.2.now) }
+{
+    let [command, domain, problem, cert] = words else {
+        return None;
+    };
+    let domain = domain.as_str();
+    let problem = problem.as_str();
+    let cert = cert.as_str();
+    if is_word(command.as_str(), "check") && is_name(domain) && is_name(problem) && is_name(cert) {
+        return Some((domain, problem, cert));
+    }
+    None
+}
+
 /// The names of the domain and the problem, where their kept task is asked for.
 fn listing(words: &[String]) -> Option<(&str, &str)>
     ensures { MatchOption result ((d p : _) → AsksListing (map string_bytes words.now) d p → ⊥) (λ names. AsksListing (map string_bytes words.now) names.0.now names.1.now) }
@@ -89,6 +107,9 @@ pub fn command_in(words: &[String]) -> Option<Command<'_>>
     }
     if let Some((domain, problem, plan)) = judging(words) {
         return Some(Command::Validate(domain, problem, plan));
+    }
+    if let Some((domain, problem, cert)) = checking(words) {
+        return Some(Command::Check(domain, problem, cert));
     }
     match listing(words) {
         Some((domain, problem)) => Some(Command::Ground(domain, problem)),
