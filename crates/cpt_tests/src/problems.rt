@@ -169,7 +169,7 @@ fn the_plan_is_opened_once_the_task_is_made(rt: HostRuntime) -> Result<(), Fail>
 const THIRTEEN: &[File] = &[
     (
         "d",
-        "(define (domain d) (:predicates (g)) (:durative-action a :parameters (?a ?b ?c ?d ?e ?f ?h ?i ?j ?k ?l ?m ?n) :duration (= ?duration 1) :condition (not (= ?a ?a)) :effect (at end (g))))",
+        "(define (domain d) (:predicates (g)) (:durative-action a :parameters (?a ?b ?c ?d ?e ?f ?h ?i ?j ?k ?l ?m ?n) :duration (= ?duration 1) :condition (at start (not (= ?a ?a))) :effect (at end (g))))",
     ),
     (
         "p",
