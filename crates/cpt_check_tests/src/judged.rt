@@ -1,6 +1,6 @@
 //! Whole certificates: what the checker says of them, and of texts that are none.
 
-ghost use Rattle.std.specs.Prelude.{◌≤◌, ◌^◌};
+ghost use Rattle.std.specs.Prelude.{◌<◌, ◌≤◌, ◌^◌};
 
 use cpt_cert::{Claim, Version};
 use cpt_check::{CheckError, Judged, Ruling, check};
@@ -123,8 +123,8 @@ const KEY: &[&str] = &[
     "task 3 3",
     "pairs",
     "h 1 4*2",
-    "h 4 6",
-    "h 4",
+    "h 3 6",
+    "h 3",
     "dists",
     "d 0*3",
     "d 1 0*2",
@@ -298,31 +298,54 @@ fn rejected(version: Option<Version>, line: u64, why: Why) -> Judged {
     }
 }
 
-/// A task, a certificate of it, and what the checker says.
-type Whole = (&'static [&'static str], &'static [&'static str], Judged);
+/// A task, a certificate of it, and its version and claim.
+type Whole = (
+    &'static [&'static str],
+    &'static [&'static str],
+    Version,
+    Claim,
+);
 
 fn expect_whole(rt: &impl Abort, alloc: Global, case: &Whole, piece: usize) -> Result<(), Fail>
     requires { 1 ≤ piece }
 {
-    let (task, lines, wanted) = case;
+    let (task, lines, version, claim) = case;
     let text = text_of(alloc, lines, Change::None)?;
     let task = task_of(alloc, task).ok_or("task")?;
     let answer = judged(alloc, &task, text.as_slice(), piece, 1_000_000);
-    assert_eq!(rt; answer, Some(Ok(*wanted)), "in pieces of {piece}");
+    let wanted = accepted(*version, *claim);
+    assert_eq!(rt; answer, Some(Ok(wanted)), "in pieces of {piece}");
     Ok(())
 }
 
+/// Certificates, and what the checker says of each.
+const WHOLE: [Whole; 5] = [
+    (
+        MIXED_TASK,
+        MIXED,
+        Version::One,
+        Claim::Spent {
+            refuted: 5,
+            nodes: 7,
+        },
+    ),
+    (
+        KEY_TASK,
+        KEY,
+        Version::Two,
+        Claim::Spent {
+            refuted: 5,
+            nodes: 6,
+        },
+    ),
+    (CHAIN_TASK, CHAIN, Version::One, Claim::Optimal(3)),
+    (LOST_TASK, LOST, Version::Two, Claim::Never),
+    (EASY_TASK, EASY, Version::One, Claim::Optimal(0)),
+];
+
 #[test]
 fn certificates_are_accepted_in_whatever_pieces_they_come(rt: HostRuntime) -> Result<(), Fail> {
-    let spent = |nodes| Claim::Spent { refuted: 5, nodes };
-    let cases: [Whole; 5] = [
-        (MIXED_TASK, MIXED, accepted(Version::One, spent(7))),
-        (KEY_TASK, KEY, accepted(Version::Two, spent(6))),
-        (CHAIN_TASK, CHAIN, accepted(Version::One, Claim::Optimal(3))),
-        (LOST_TASK, LOST, accepted(Version::Two, Claim::Never)),
-        (EASY_TASK, EASY, accepted(Version::One, Claim::Optimal(0))),
-    ];
-    for case in &cases {
+    for case in &WHOLE {
         expect_whole(&rt, rt.alloc(), case, 1)?;
         expect_whole(&rt, rt.alloc(), case, 2)?;
         expect_whole(&rt, rt.alloc(), case, 3)?;
@@ -354,75 +377,94 @@ fn expect_faults(
     Ok(())
 }
 
+/// Changes of the certificate of the first version, and their faults.
+const FIRST_FAULTS: [Fault; 21] = [
+    (Change::Line(2, "claim spent 5 07"), 2, Why::Grammar),
+    (Change::Line(5, "h 0 1 3 3"), 5, Why::Grammar),
+    (Change::Line(11, "d 0*5"), 11, Why::Grammar),
+    (Change::Without(16), 16, Why::Grammar),
+    (Change::Without(49), 49, Why::Grammar),
+    (Change::Without(50), 50, Why::Grammar),
+    (Change::Line(3, "task 4 4"), 3, Why::Task),
+    (Change::Line(3, "task 5 5"), 3, Why::Task),
+    (Change::Line(9, "h 4"), 9, Why::Pair),
+    (Change::Line(5, "h 0 2 3 3 3"), 5, Why::Pair),
+    (Change::Line(12, "d 0 2 0 0 0"), 12, Why::Dist),
+    (Change::Line(15, "tree 4"), 15, Why::Bound),
+    (Change::Line(17, "open-tree 7"), 17, Why::Bound),
+    (Change::Before(16, "4 1 2 3"), 16, Why::Step),
+    (Change::Line(26, "4 3 0 4"), 26, Why::Step),
+    (Change::Line(47, "close"), 47, Why::Close),
+    (Change::Line(18, "branch open 1 0"), 18, Why::Branch),
+    (Change::Line(22, "branch clash 3 2"), 22, Why::Branch),
+    (Change::Line(19, "child bring 1 4 2"), 19, Why::Child),
+    (Change::Line(23, "child before 3 2"), 23, Why::Child),
+    (Change::Line(2, "claim spent 5 8"), 50, Why::Count),
+];
+
 #[test]
 fn faults_of_a_certificate_of_the_first_version(rt: HostRuntime) -> Result<(), Fail> {
-    let faults: [Fault; 21] = [
-        (Change::Line(2, "claim spent 5 07"), 2, Why::Grammar),
-        (Change::Line(5, "h 0 1 3 3"), 5, Why::Grammar),
-        (Change::Line(11, "d 0*5"), 11, Why::Grammar),
-        (Change::Without(16), 16, Why::Grammar),
-        (Change::Without(49), 49, Why::Grammar),
-        (Change::Without(50), 50, Why::Grammar),
-        (Change::Line(3, "task 4 4"), 3, Why::Task),
-        (Change::Line(3, "task 5 5"), 3, Why::Task),
-        (Change::Line(9, "h 4"), 9, Why::Pair),
-        (Change::Line(5, "h 0 2 3 3 3"), 5, Why::Pair),
-        (Change::Line(12, "d 0 2 0 0 0"), 12, Why::Dist),
-        (Change::Line(15, "tree 4"), 15, Why::Bound),
-        (Change::Line(17, "open-tree 7"), 17, Why::Bound),
-        (Change::Before(16, "4 1 2 3"), 16, Why::Step),
-        (Change::Line(26, "4 3 0 4"), 26, Why::Step),
-        (Change::Line(47, "close"), 47, Why::Close),
-        (Change::Line(18, "branch open 1 0"), 18, Why::Branch),
-        (Change::Line(22, "branch clash 3 2"), 22, Why::Branch),
-        (Change::Line(19, "child bring 1 4 2"), 19, Why::Child),
-        (Change::Line(23, "child before 3 2"), 23, Why::Child),
-        (Change::Line(2, "claim spent 5 8"), 50, Why::Count),
-    ];
-    expect_faults(&rt, rt.alloc(), MIXED_TASK, MIXED, Version::One, &faults)
+    expect_faults(
+        &rt,
+        rt.alloc(),
+        MIXED_TASK,
+        MIXED,
+        Version::One,
+        &FIRST_FAULTS,
+    )
 }
+
+/// Changes of the certificate of the second version, and their faults.
+const SECOND_FAULTS: [Fault; 9] = [
+    (Change::Line(5, "h 1 4 4"), 5, Why::Grammar),
+    (Change::Line(5, "h 1 4*3"), 5, Why::Grammar),
+    (Change::Line(6, "h 3 7"), 6, Why::Pair),
+    (Change::Line(10, "d 2 0*2"), 10, Why::Dist),
+    (Change::Line(34, "close"), 34, Why::Close),
+    (Change::Line(20, "branch threat 2 0 3"), 20, Why::Branch),
+    (Change::Line(21, "child before 2 4"), 21, Why::Child),
+    (Change::Line(2, "claim spent 5 5"), 39, Why::Count),
+    (Change::Line(2, "claim spent 4 6"), 12, Why::Bound),
+];
 
 #[test]
 fn faults_of_a_certificate_of_the_second_version(rt: HostRuntime) -> Result<(), Fail> {
-    let faults: [Fault; 9] = [
-        (Change::Line(5, "h 1 4 4"), 5, Why::Grammar),
-        (Change::Line(5, "h 1 4*3"), 5, Why::Grammar),
-        (Change::Line(6, "h 4 7"), 6, Why::Pair),
-        (Change::Line(10, "d 2 0*2"), 10, Why::Dist),
-        (Change::Line(34, "close"), 34, Why::Close),
-        (Change::Line(20, "branch threat 2 0 3"), 20, Why::Branch),
-        (Change::Line(21, "child before 2 4"), 21, Why::Child),
-        (Change::Line(2, "claim spent 5 5"), 39, Why::Count),
-        (Change::Line(2, "claim spent 4 6"), 12, Why::Bound),
-    ];
-    expect_faults(&rt, rt.alloc(), KEY_TASK, KEY, Version::Two, &faults)
+    expect_faults(&rt, rt.alloc(), KEY_TASK, KEY, Version::Two, &SECOND_FAULTS)
 }
+
+/// Changes of the certificate of a plan, and their faults.
+const CHAIN_FAULTS: [Fault; 10] = [
+    (Change::Line(2, "claim optimal 4"), 4, Why::Plan),
+    (Change::Line(6, "0 1"), 4, Why::Plan),
+    (Change::Line(6, "1 2"), 4, Why::Plan),
+    (Change::Line(6, "1 4294967297"), 4, Why::Plan),
+    (Change::Line(6, "9999999999999999 1"), 4, Why::Plan),
+    (Change::Line(4, "plan 1"), 4, Why::Plan),
+    (Change::Line(5, "2 0"), 6, Why::Grammar),
+    (Change::Line(15, "10 1 0 2"), 15, Why::Step),
+    (Change::Without(16), 16, Why::Close),
+    (Change::Before(18, "end"), 19, Why::Grammar),
+];
+
+/// A table in which the goal has a finite value.
+const FINITE: [Fault; 1] = [(Change::Line(5, "h 0"), 2, Why::Goal)];
+
+/// Changes of the certificate of an empty plan.
+const HELD: [Fault; 2] = [
+    (Change::Line(2, "claim optimal 1"), 4, Why::Plan),
+    (Change::Before(5, "0 0"), 5, Why::Grammar),
+];
+
+/// A claim that fails as it stands.
+const HOLDS: [Fault; 1] = [(Change::None, 2, Why::Goal)];
 
 #[test]
 fn faults_of_plans_steps_and_goals(rt: HostRuntime) -> Result<(), Fail> {
     let alloc = rt.alloc();
-    let faults: [Fault; 10] = [
-        (Change::Line(2, "claim optimal 4"), 4, Why::Plan),
-        (Change::Line(6, "0 1"), 4, Why::Plan),
-        (Change::Line(6, "1 2"), 4, Why::Plan),
-        (Change::Line(6, "1 4294967297"), 4, Why::Plan),
-        (Change::Line(6, "9999999999999999 1"), 4, Why::Plan),
-        (Change::Line(4, "plan 1"), 4, Why::Plan),
-        (Change::Line(5, "2 0"), 6, Why::Grammar),
-        (Change::Line(15, "10 1 0 2"), 15, Why::Step),
-        (Change::Without(16), 16, Why::Close),
-        (Change::Before(18, "end"), 19, Why::Grammar),
-    ];
-    expect_faults(&rt, alloc, CHAIN_TASK, CHAIN, Version::One, &faults)?;
-    let finite: [Fault; 1] = [(Change::Line(5, "h 0"), 2, Why::Goal)];
-    expect_faults(&rt, alloc, LOST_TASK, LOST, Version::Two, &finite)?;
-    let held: [Fault; 2] = [
-        (Change::Line(2, "claim optimal 1"), 4, Why::Plan),
-        (Change::Before(5, "0 0"), 5, Why::Grammar),
-    ];
-    expect_faults(&rt, alloc, EASY_TASK, EASY, Version::One, &held)?;
-    let never: [Fault; 1] = [(Change::None, 2, Why::Goal)];
-    expect_faults(&rt, alloc, EASY_TASK, NEVER, Version::One, &never)
+    expect_faults(&rt, alloc, CHAIN_TASK, CHAIN, Version::One, &CHAIN_FAULTS)?;
+    expect_faults(&rt, alloc, LOST_TASK, LOST, Version::Two, &FINITE)?;
+    expect_faults(&rt, alloc, EASY_TASK, EASY, Version::One, &HELD)?;
+    expect_faults(&rt, alloc, EASY_TASK, NEVER, Version::One, &HOLDS)
 }
 
 #[test]

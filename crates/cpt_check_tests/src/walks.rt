@@ -4,11 +4,11 @@ ghost use Rattle.std.specs.Prelude.{IfSome, IfOk};
 ghost use Rattle.cpt_sheet.specs.Gaps.{FitsTask};
 ghost use Rattle.cpt_walk.specs.Walks.{IsWalk, IsSoundTurn};
 
-use cpt_walk::{Turn, Walk, begin_tree, is_read, take_node};
 use cpt_calculus::{Decision, Flaw, NodeLine, Step, root};
 use cpt_tables::{DistTable, PairTable, Tables};
 use cpt_task::{Action, Ids, List, Span, Task};
 use cpt_verdict::Why;
+use cpt_walk::{Turn, Walk, begin_tree, is_read, take_node};
 use std::alloc::Global;
 
 fn ids(alloc: Global, xs: &[u32]) -> Option<Ids> {

@@ -1,0 +1,5 @@
+(define (problem one-piece)
+  (:domain workshop)
+  (:init)
+  (:goal (and (cut) (drilled)))
+  (:metric minimize (total-time)))
