@@ -13,203 +13,222 @@ use std::process::Abort;
 use std::test::Fail;
 
 /// A resource, and a key that two actions use up.
-const MIXED_TASK: &[&str] = &[
-    "task 5 4",
-    "atom (r)",
-    "atom (k)",
-    "atom (g1)",
-    "atom (g2)",
-    "atom (h)",
-    "action (make) 1",
-    "pre",
-    "add 1",
-    "del",
-    "action (use1) 2",
-    "pre 0 1",
-    "add 2",
-    "del 1",
-    "action (use2) 2",
-    "pre 1",
-    "add 3",
-    "del 1",
-    "action (hold) 3",
-    "pre 0",
-    "add 0 4",
-    "del 0",
-    "init 0",
-    "goal 2 3 4",
-];
+const MIXED_TASK: &str = "task 5 4
+atom (r)
+atom (k)
+atom (g1)
+atom (g2)
+atom (h)
+action (make) 1
+pre
+add 1
+del
+action (use1) 2
+pre 0 1
+add 2
+del 1
+action (use2) 2
+pre 1
+add 3
+del 1
+action (hold) 3
+pre 0
+add 0 4
+del 0
+init 0
+goal 2 3 4
+";
 
 /// Both decisions on needs and that on orders, and steps of each rule but the tenth, in each of their variants.
-const MIXED: &[&str] = &[
-    "cpt 1",
-    "claim spent 5 7",
-    "task 5 4",
-    "pairs",
-    "h 0 1 3 3 3",
-    "h 1 4 4 3",
-    "h 3 6 5",
-    "h 3 3",
-    "h 3",
-    "dists",
-    "d 0 0 0 0 0",
-    "d 0 1 0 0 0",
-    "d 0 1 0 0 0",
-    "d 0 0 0 0 0",
-    "tree 5",
-    "close",
-    "open-tree 6",
-    "branch open 1 4",
-    "child bring 1 4 3",
-    "branch open 1 2",
-    "child bring 1 2 1",
-    "branch clash 2 3",
-    "child before 2 3",
-    "2 2 3 1",
-    "8 3 0 t0 2",
-    "4 3 0 3",
-    "12 2 3 after 3",
-    "5 3 0 o3",
-    "11 3 0 3 ahead 0",
-    "branch open 1 3",
-    "child bring 1 3 2",
-    "11 3 0 3 after 5",
-    "12 3 1 ahead 1",
-    "3 4 3",
-    "7 2 0 o3",
-    "1 4 3 4",
-    "branch open 3 1",
-    "child bring 3 1 0",
-    "9 3 1 4 ahead",
-    "branch open 4 1",
-    "child join 4 1 5",
-    "6 4 1",
-    "9 3 1 4 after",
-    "13 1 2 t3 3",
-    "close",
-    "child bring 4 1 0",
-    "open",
-    "child before 3 2",
-    "open",
-    "end",
-];
+const MIXED: &str = "cpt 1
+claim spent 5 7
+task 5 4
+pairs
+h 0 1 3 3 3
+h 1 4 4 3
+h 3 6 5
+h 3 3
+h 3
+dists
+d 0 0 0 0 0
+d 0 1 0 0 0
+d 0 1 0 0 0
+d 0 0 0 0 0
+tree 5
+close
+open-tree 6
+branch open 1 4
+child bring 1 4 3
+branch open 1 2
+child bring 1 2 1
+branch clash 2 3
+child before 2 3
+2 2 3 1
+8 3 0 t0 2
+4 3 0 3
+12 2 3 after 3
+5 3 0 o3
+11 3 0 3 ahead 0
+branch open 1 3
+child bring 1 3 2
+11 3 0 3 after 5
+12 3 1 ahead 1
+3 4 3
+7 2 0 o3
+1 4 3 4
+branch open 3 1
+child bring 3 1 0
+9 3 1 4 ahead
+branch open 4 1
+child join 4 1 5
+6 4 1
+9 3 1 4 after
+13 1 2 t3 3
+close
+child bring 4 1 0
+open
+child before 3 2
+open
+end
+";
 
 /// A key that one action makes and two others use up.
-const KEY_TASK: &[&str] = &[
-    "task 3 3",
-    "atom (k)",
-    "atom (g1)",
-    "atom (g2)",
-    "action (u) 1",
-    "pre",
-    "add 0",
-    "del",
-    "action (v1) 2",
-    "pre 0",
-    "add 1",
-    "del 0",
-    "action (v2) 2",
-    "pre 0",
-    "add 2",
-    "del 0",
-    "init",
-    "goal 1 2",
-];
+const KEY_TASK: &str = "task 3 3
+atom (k)
+atom (g1)
+atom (g2)
+action (u) 1
+pre
+add 0
+del
+action (v1) 2
+pre 0
+add 1
+del 0
+action (v2) 2
+pre 0
+add 2
+del 0
+init
+goal 1 2
+";
 
 /// Each kind of flaw, in the second version.
-const KEY: &[&str] = &[
-    "cpt 2",
-    "claim spent 5 6",
-    "task 3 3",
-    "pairs",
-    "h 1 4*2",
-    "h 3 6",
-    "h 3",
-    "dists",
-    "d 0*3",
-    "d 1 0*2",
-    "d 1 0*2",
-    "tree 5",
-    "close",
-    "open-tree 6",
-    "branch open 1 1",
-    "child bring 1 1 1",
-    "branch open 2 0",
-    "child bring 2 0 0",
-    "2 3 2 3",
-    "branch open 1 2",
-    "child bring 1 2 2",
-    "branch threat 2 0 4",
-    "child before 4 3",
-    "1 4 3 3",
-    "5 4 0 t3",
-    "4 2 0 4",
-    "3 4 2",
-    "12 2 0 ahead 3",
-    "11 2 0 2 ahead 1",
-    "branch open 4 0",
-    "child bring 4 0 0",
-    "branch clash 2 5",
-    "child before 2 5",
-    "open",
-    "child before 5 2",
-    "open",
-    "child before 2 4",
-    "open",
-    "end",
-];
+const KEY: &str = "cpt 2
+claim spent 5 6
+task 3 3
+pairs
+h 1 4*2
+h 3 6
+h 3
+dists
+d 0*3
+d 1 0*2
+d 1 0*2
+tree 5
+close
+open-tree 6
+branch open 1 1
+child bring 1 1 1
+branch open 2 0
+child bring 2 0 0
+2 3 2 3
+branch open 1 2
+child bring 1 2 2
+branch threat 2 0 4
+child before 4 3
+1 4 3 3
+5 4 0 t3
+4 2 0 4
+3 4 2
+12 2 0 ahead 3
+11 2 0 2 ahead 1
+branch open 4 0
+child bring 4 0 0
+branch clash 2 5
+child before 2 5
+open
+child before 5 2
+open
+child before 2 4
+open
+end
+";
 
 /// An action that adds the key, and one that needs it and adds the goal.
-const CHAIN_TASK: &[&str] = &[
-    "task 2 2",
-    "atom (k)",
-    "atom (g)",
-    "action (u) 1",
-    "pre",
-    "add 0",
-    "del",
-    "action (v) 2",
-    "pre 0",
-    "add 1",
-    "del",
-    "init",
-    "goal 1",
-];
+const CHAIN_TASK: &str = "task 2 2
+atom (k)
+atom (g)
+action (u) 1
+pre
+add 0
+del
+action (v) 2
+pre 0
+add 1
+del
+init
+goal 1
+";
 
 /// Tables of zeros, and steps of the tenth rule and the seventh.
-const CHAIN: &[&str] = &[
-    "cpt 1",
-    "claim optimal 3",
-    "task 2 2",
-    "plan 2",
-    "0 0",
-    "1 1",
-    "pairs",
-    "h 0 0",
-    "h 0",
-    "dists",
-    "d 0 0",
-    "d 0 0",
-    "tree 2",
-    "4 1 1 2",
-    "10 1 0 1",
-    "7 1 1 o1",
-    "close",
-    "end",
-];
+const CHAIN: &str = "cpt 1
+claim optimal 3
+task 2 2
+plan 2
+0 0
+1 1
+pairs
+h 0 0
+h 0
+dists
+d 0 0
+d 0 0
+tree 2
+4 1 1 2
+10 1 0 1
+7 1 1 o1
+close
+end
+";
 
 /// A task of one atom that no action adds.
-const LOST_TASK: &[&str] = &["task 1 0", "atom (g)", "init", "goal 0"];
+const LOST_TASK: &str = "task 1 0
+atom (g)
+init
+goal 0
+";
 
-const LOST: &[&str] = &["cpt 2", "claim none", "task 1 0", "pairs", "h never", "end"];
+const LOST: &str = "cpt 2
+claim none
+task 1 0
+pairs
+h never
+end
+";
 
 /// A task whose goal holds at the start.
-const EASY_TASK: &[&str] = &["task 1 0", "atom (g)", "init 0", "goal 0"];
+const EASY_TASK: &str = "task 1 0
+atom (g)
+init 0
+goal 0
+";
 
-const EASY: &[&str] = &["cpt 1", "claim optimal 0", "task 1 0", "plan 0", "end"];
+const EASY: &str = "cpt 1
+claim optimal 0
+task 1 0
+plan 0
+end
+";
 
 /// A claim that the goal can never hold, which it does.
-const NEVER: &[&str] = &["cpt 1", "claim none", "task 1 0", "pairs", "h 0", "end"];
+const NEVER: &str = "cpt 1
+claim none
+task 1 0
+pairs
+h 0
+end
+";
 
 /// A change of a text: of the line at a number, from 1 on.
 #[derive(Clone, Copy)]
@@ -221,40 +240,48 @@ enum Change {
 }
 
 /// Puts the line and its line feed.
-fn put_line(text: &mut Vec<u8>, line: &str) -> Result<(), AllocError> {
-    text.extend_from_slice(line.as_bytes())?;
-    text.push(b'\n')?;
+fn put_line(text: &mut Vec<u8>, line: &[u8]) -> Result<(), AllocError> {
+    text.extend_from_slice(line)?;
+    text.extend_from_slice(b"\n")?;
     Ok(())
 }
 
-/// Puts what the change makes of the line at the number.
+/// Puts what the change makes of the line at the number, which is given with its line feed.
 fn put_changed(
     text: &mut Vec<u8>,
     number: usize,
-    line: &str,
+    line: &[u8],
     change: Change,
 ) -> Result<(), AllocError> {
     match change {
-        Change::Line(at, new) if at == number => put_line(text, new),
+        Change::Line(at, new) if at == number => put_line(text, new.as_bytes())?,
         Change::Before(at, new) if at == number => {
-            put_line(text, new)?;
-            put_line(text, line)
+            put_line(text, new.as_bytes())?;
+            text.extend_from_slice(line)?;
         }
-        Change::Without(at) if at == number => Ok(()),
-        _ => put_line(text, line),
+        Change::Without(at) if at == number => {}
+        _ => text.extend_from_slice(line)?,
     }
+    Ok(())
 }
 
-/// The text of the lines with the change.
-fn text_of(alloc: Global, lines: &[&str], change: Change) -> Result<Vec<u8>, AllocError> {
+/// The lines with the change.
+fn text_of(alloc: Global, lines: &str, change: Change) -> Result<Vec<u8>, AllocError> {
     let mut text = Vec::new(alloc);
-    for (at, line) in lines.iter().enumerate() {
-        put_changed(&mut text, at + 1, line, change)?;
+    let mut line = Vec::new(alloc);
+    let mut number: usize = 1;
+    for byte in lines.as_bytes() {
+        line.push(*byte)?;
+        if *byte == b'\n' {
+            put_changed(&mut text, number, line.as_slice(), change)?;
+            line.clear();
+            number = number.saturating_add(1);
+        }
     }
     Ok(text)
 }
 
-fn task_of(alloc: Global, lines: &[&str]) -> Option<Task> {
+fn task_of(alloc: Global, lines: &str) -> Option<Task> {
     let text = text_of(alloc, lines, Change::None).ok()?;
     if text.len() > 4096 {
         return None;
@@ -299,12 +326,7 @@ fn rejected(version: Option<Version>, line: u64, why: Why) -> Judged {
 }
 
 /// A task, a certificate of it, and its version and claim.
-type Whole = (
-    &'static [&'static str],
-    &'static [&'static str],
-    Version,
-    Claim,
-);
+type Whole = (&'static str, &'static str, Version, Claim);
 
 fn expect_whole(rt: &impl Abort, alloc: Global, case: &Whole, piece: usize) -> Result<(), Fail>
     requires { 1 ≤ piece }
@@ -362,8 +384,8 @@ type Fault = (Change, u64, Why);
 fn expect_faults(
     rt: &impl Abort,
     alloc: Global,
-    task: &[&str],
-    lines: &[&str],
+    task: &str,
+    lines: &str,
     version: Version,
     faults: &[Fault],
 ) -> Result<(), Fail> {
