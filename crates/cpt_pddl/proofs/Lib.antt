@@ -1,5 +1,7 @@
+mod ClimbLemmas
 mod CursorLemmas
 mod KindLemmas
+mod LadderLemmas
 mod NameLemmas
 mod NumberLemmas
 pub mod WordLemmas
