@@ -1,24 +1,21 @@
 //! The types of a domain.
 
 ghost use Rattle.std.specs.Prelude.{◌≡◌, false, slice_set, ◌≤◌, ◌∷◌, ◌++◌, ◌==◌, [], drop, length, slice_index, Ok};
-ghost use Rattle.std.specs.List.{list_all, list_any};
 ghost use Rattle.cpt_pddl.specs.Faults.{Gives};
 ghost use Rattle.cpt_pddl.specs.Items.{left};
-ghost use Rattle.cpt_pddl.specs.Kinds.{is_below};
 ghost use Rattle.cpt_pddl.specs.Names.{place_in};
 ghost use Rattle.cpt_declared.specs.KindRuns.{run_of};
-ghost use Rattle.cpt_declared.specs.Kinds.{adopted, below_parent, dashed, entered_as, finished, has, is_entered, is_rooted, kinds_in, kinds_rest, misplaced, object_alone, parent_as, start, taken};
+ghost use Rattle.cpt_declared.specs.Kinds.{adopted, below_parent, dashed, entered_as, finished, has, is_entered, kinds_in, kinds_rest, misplaced, object_alone, parent_as, start, taken};
 
 use crate::kind_run::Reading;
-use cpt_pddl::{Cursor, Fault, Names, Next, is_below, is_name, is_word, type_group};
-use cpt_task::List;
+use cpt_pddl::{Ancestry, Cursor, Fault, Names, Next, is_name, is_word, type_group};
 use std::alloc::Global;
 
 /// The types by number, and the parent of each. Type 0 is `object`, its own parent.
 #[derive(Debug, Drop)]
 pub struct Kinds {
     pub names: Names,
-    pub parents: List<u32>,
+    pub parents: Ancestry,
 }
 
 fn has(kinds: &[u32], kind: u32) -> bool
@@ -61,23 +58,6 @@ fn put_below(parent: u32, kinds: &[u32], parents: &mut [u32])
     if parent != 0 {
         adopt(parent, kinds, parents);
     }
-}
-
-/// Whether object is its own parent and above each type.
-#[tactic(auto, unfolding(crate::specs::Kinds::is_rooted))]
-fn is_rooted(parents: &[u32]) -> bool
-    ensures { result ≡ is_rooted parents.now }
-{
-    match parents.first() {
-        None => true,
-        Some(parent) => *parent == 0 && all_below(parents),
-    }
-}
-
-fn all_below(parents: &[u32]) -> bool
-    ensures { result ≡ list_all (λ parent. is_below parents.now parent 0) parents.now }
-{
-    parents.iter().all(|parent| is_below(parents, *parent, 0))
 }
 
 impl Reading {
@@ -183,14 +163,12 @@ impl Reading {
         if self.dash {
             return Err(Fault::Shape(close));
         }
-        if !is_rooted(self.parents.as_slice()) {
+        let Reading { names, parents, .. } = self;
+        let parents = Ancestry::new(parents)?;
+        if !parents.is_rooted() {
             return Err(Fault::BadType(section));
         }
-        let Reading { names, parents, .. } = self;
-        Ok(Kinds {
-            names,
-            parents: List::from_vec(parents),
-        })
+        Ok(Kinds { names, parents })
     }
 
     fn start(alloc: Global) -> Result<Reading, Fault>
@@ -234,8 +212,6 @@ pub fn object_alone(alloc: Global) -> Result<Kinds, Fault>
     ensures { Gives (λ kinds. kinds) result (Ok object_alone) }
 {
     let Reading { names, parents, .. } = Reading::start(alloc)?;
-    Ok(Kinds {
-        names,
-        parents: List::from_vec(parents),
-    })
+    let parents = Ancestry::new(parents)?;
+    Ok(Kinds { names, parents })
 }
