@@ -1,11 +1,11 @@
 //! The types of a domain.
 
-ghost use Rattle.std.specs.Prelude.{◌≡◌, false, slice_set, ◌≤◌, ◌∷◌, ◌++◌, ◌==◌, [], drop, length, slice_index, Ok};
+ghost use Rattle.std.specs.Prelude.{◌≡◌, false, slice_set, ◌≤◌, ◌∷◌, ◌++◌, ◌==◌, [], drop, length, slice_index_or, ◌<◌, IfOk, Ok};
 ghost use Rattle.cpt_pddl.specs.Faults.{Gives};
 ghost use Rattle.cpt_pddl.specs.Items.{left};
 ghost use Rattle.cpt_pddl.specs.Names.{place_in};
 ghost use Rattle.cpt_declared.specs.KindRuns.{run_of};
-ghost use Rattle.cpt_declared.specs.Kinds.{adopted, below_parent, dashed, entered_as, finished, has, is_entered, kinds_in, kinds_rest, misplaced, object_alone, parent_as, start, taken};
+ghost use Rattle.cpt_declared.specs.Kinds.{adopted, below_parent, dashed, entered_as, finished, is_entered, kinds_in, kinds_rest, misplaced, object_alone, parent_as, start, taken};
 
 use crate::kind_run::Reading;
 use cpt_pddl::{Ancestry, Cursor, Fault, Names, Next, is_name, is_word, type_group};
@@ -18,21 +18,13 @@ pub struct Kinds {
     pub parents: Ancestry,
 }
 
-fn has(kinds: &[u32], kind: u32) -> bool
-    ensures { result ≡ has kinds.now kind }
+fn is_marked(marks: &[bool], kind: u32) -> bool
+    ensures { result ≡ slice_index_or marks.now kind false }
 {
-    for k in kinds {
-        if *k == kind {
-            return true;
-        }
+    match marks.get(kind as usize) {
+        None => false,
+        Some(mark) => *mark,
     }
-    false
-}
-
-fn is_entered(entered: &[u32], kind: u32) -> bool
-    ensures { result ≡ is_entered entered.now kind }
-{
-    kind != 0 && has(entered, kind)
 }
 
 fn set_parent(parents: &mut [u32], kind: u32, parent: u32)
@@ -64,12 +56,31 @@ impl Reading {
     /// A type that did not stand before, whose parent is object as yet, and its number.
     fn push(&mut self, bytes: &[u8]) -> Result<u32, Fault>
         ensures number { Gives (λ kind. kind) result (Ok (length self.old.names)) }
+        ensures marked { IfOk result (λ kind. kind < length self.new.marks.items) }
         ensures added { Gives (λ _. run_of self.new) result (Ok (record (run_of self.old) { names = self.old.names ++ bytes.now ∷ []; parents = self.old.parents.items ++ 0 ∷ [] })) }
     {
         let kind = self.names.len();
+        self.marks.push(false)?;
         self.names.push(bytes)?;
         self.parents.push(0)?;
         Ok(kind)
+    }
+
+    fn is_entered(&self, kind: u32) -> bool
+        ensures { result ≡ is_entered self.now.entered.items kind }
+    {
+        kind != 0 && is_marked(self.marks.as_slice(), kind)
+    }
+
+    /// The type is entered once more.
+    #[tactic(auto, using(crate::proofs::MarkLemmas::marks_entered))]
+    fn enter_kind(&mut self, kind: u32) -> Result<(), Fault>
+        requires { kind < length self.old.marks.items }
+        ensures { Gives (λ _. run_of self.new) result (Ok (record (run_of self.old) { entered = self.old.entered.items ++ kind ∷ [] })) }
+    {
+        self.entered.push(kind)?;
+        self.marks[kind as usize] = true;
+        Ok(())
     }
 
     fn enter(&mut self, at: u32, bytes: &[u8]) -> Result<(), Fault>
@@ -78,13 +89,13 @@ impl Reading {
         match self.names.find(bytes) {
             None => {
                 let kind = self.push(bytes)?;
-                self.entered.push(kind)?;
+                self.enter_kind(kind)?;
             }
             Some(kind) => {
-                if is_entered(self.entered.as_slice(), kind) {
+                if self.is_entered(kind) {
                     return Err(Fault::Twice(at));
                 }
-                self.entered.push(kind)?;
+                self.enter_kind(kind)?;
             }
         }
         Ok(())
@@ -178,10 +189,13 @@ impl Reading {
         names.push(b"object")?;
         let mut parents = Vec::new(alloc);
         parents.push(0)?;
+        let mut marks = Vec::new(alloc);
+        marks.push(false)?;
         Ok(Reading {
             names,
             parents,
             entered: Vec::new(alloc),
+            marks,
             parented: 0,
             dash: false,
         })

@@ -4,4 +4,5 @@ mod KindLemmas
 mod LadderLemmas
 mod NameLemmas
 mod NumberLemmas
+pub mod PlaceLemmas
 pub mod WordLemmas
