@@ -1,11 +1,9 @@
 use Rattle.std.proofs.Common.{◌≡◌, ℕ, suc, zero, ◌<◌, ◌≤◌, ◌+◌, ◌++◌, ◌∷◌, [], Bool, true, false, List, length, All, inl, inr, refl, ap, subst, arith}
 use Rattle.std.specs.Prelude.{if◌then◌else◌, ◌⊎◌, Result, Ok, Err, Option, None, Some, replicate}
-use Rattle.std.specs.Str.{bytes_eq}
 use Rattle.std.proofs.lemmas.List.{length-append}
 use Rattle.std.proofs.lemmas.List.Elements.{All-append, All-cons, All-nil}
 use Rattle.cpt_pddl.specs.declared.fault.Fault.{Fault}
 use Rattle.cpt_pddl.specs.Faults.{◌>>=◌, or_fault}
-use Rattle.cpt_pddl.specs.Names.{place_from, place_in}
 pub use Rattle.cpt_pddl.proofs.PlaceLemmas.{place_below}
 use Rattle.cpt_domain.specs.SoundKinds.{AreBelow}
 
