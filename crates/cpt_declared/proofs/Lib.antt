@@ -1,1 +1,2 @@
 mod InsertLemmas
+mod MarkLemmas

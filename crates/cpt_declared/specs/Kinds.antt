@@ -1,12 +1,11 @@
-use Rattle.std.specs.Prelude.{ℕ, ◌==◌, Bool, true, false, ◌&&◌, not, if◌then◌else◌, List, [], ◌∷◌, ◌++◌, length, drop, slice_index, slice_set, Option, None, Some, Result, Ok, Err, codes}
-use Rattle.std.specs.List.{list_all}
+use Rattle.std.specs.Prelude.{ℕ, ◌==◌, Bool, true, false, ◌&&◌, not, if◌then◌else◌, List, [], ◌∷◌, ◌++◌, length, drop, slice_set, Option, None, Some, Result, Ok, Err, codes}
 use Rattle.std.specs.Str.{bytes_eq}
 use Rattle.cpt_declared.specs.declared.kinds.Kinds.{Kinds}
 use Rattle.cpt_pddl.specs.declared.fault.Fault.{Fault}
 use Rattle.cpt_pddl.specs.declared.fault.Fault.TheVariants as faults
 use Rattle.cpt_pddl.specs.Faults.{◌>>=◌}
 use Rattle.cpt_pddl.specs.Items.{Items, end, word, group}
-use Rattle.cpt_pddl.specs.Kinds.{is_below}
+unfoldable pub use Rattle.cpt_pddl.specs.Kinds.{is_rooted}
 use Rattle.cpt_pddl.specs.Names.{place_in}
 use Rattle.cpt_pddl.specs.Typed.{type_group}
 use Rattle.cpt_pddl.specs.Words.{is_name}
@@ -63,10 +62,6 @@ taken run at bytes =
     else if bytes_eq bytes (codes "-") then dashed run at
     else if is_name bytes then entered_as run at bytes (place_in run.names bytes)
     else Err (faults.Shape at)
-
--- object is its own parent, and above each type
-unfoldable pub is_rooted : List ℕ → Bool
-is_rooted parents = (slice_index parents 0 == 0) && list_all (λ parent. is_below parents parent 0) parents
 
 -- the end of a list of types, which stands in the section at a byte
 unfoldable pub finished : ℕ → KindRun → ℕ → Result Kinds Fault

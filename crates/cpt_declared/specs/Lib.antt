@@ -1,3 +1,4 @@
 pub mod Kinds
 pub mod KindRuns
+pub mod Marks
 pub mod Signatures

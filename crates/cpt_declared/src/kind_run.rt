@@ -1,6 +1,7 @@
 //! A list of types while it is read.
 
 ghost use Rattle.std.specs.Prelude.{◌≤◌, length};
+ghost use Rattle.cpt_declared.specs.Marks.{AreMarks};
 
 use cpt_pddl::Names;
 
@@ -11,7 +12,11 @@ pub struct Reading {
     pub names: Names,
     pub parents: Vec<u32>,
     pub entered: Vec<u32>,
+    /// For each type, whether it was entered.
+    pub marks: Vec<bool>,
     pub parented: usize,
     pub dash: bool,
     ghost few: { parented ≤ length entered.items },
+    ghost marked: { length names ≤ length marks.items },
+    ghost told: { AreMarks entered.items marks.items },
 }

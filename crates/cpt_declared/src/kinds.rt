@@ -1,41 +1,30 @@
 //! The types of a domain.
 
-ghost use Rattle.std.specs.Prelude.{◌≡◌, false, slice_set, ◌≤◌, ◌∷◌, ◌++◌, ◌==◌, [], drop, length, slice_index, Ok};
-ghost use Rattle.std.specs.List.{list_all, list_any};
+ghost use Rattle.std.specs.Prelude.{◌≡◌, false, slice_set, ◌≤◌, ◌∷◌, ◌++◌, ◌==◌, [], drop, length, slice_index_or, ◌<◌, IfOk, Ok};
 ghost use Rattle.cpt_pddl.specs.Faults.{Gives};
 ghost use Rattle.cpt_pddl.specs.Items.{left};
-ghost use Rattle.cpt_pddl.specs.Kinds.{is_below};
 ghost use Rattle.cpt_pddl.specs.Names.{place_in};
 ghost use Rattle.cpt_declared.specs.KindRuns.{run_of};
-ghost use Rattle.cpt_declared.specs.Kinds.{adopted, below_parent, dashed, entered_as, finished, has, is_entered, is_rooted, kinds_in, kinds_rest, misplaced, object_alone, parent_as, start, taken};
+ghost use Rattle.cpt_declared.specs.Kinds.{adopted, below_parent, dashed, entered_as, finished, is_entered, kinds_in, kinds_rest, misplaced, object_alone, parent_as, start, taken};
 
 use crate::kind_run::Reading;
-use cpt_pddl::{Cursor, Fault, Names, Next, is_below, is_name, is_word, type_group};
-use cpt_task::List;
+use cpt_pddl::{Ancestry, Cursor, Fault, Names, Next, is_name, is_word, type_group};
 use std::alloc::Global;
 
 /// The types by number, and the parent of each. Type 0 is `object`, its own parent.
 #[derive(Debug, Drop)]
 pub struct Kinds {
     pub names: Names,
-    pub parents: List<u32>,
+    pub parents: Ancestry,
 }
 
-fn has(kinds: &[u32], kind: u32) -> bool
-    ensures { result ≡ has kinds.now kind }
+fn is_marked(marks: &[bool], kind: u32) -> bool
+    ensures { result ≡ slice_index_or marks.now kind false }
 {
-    for k in kinds {
-        if *k == kind {
-            return true;
-        }
+    match marks.get(kind as usize) {
+        None => false,
+        Some(mark) => *mark,
     }
-    false
-}
-
-fn is_entered(entered: &[u32], kind: u32) -> bool
-    ensures { result ≡ is_entered entered.now kind }
-{
-    kind != 0 && has(entered, kind)
 }
 
 fn set_parent(parents: &mut [u32], kind: u32, parent: u32)
@@ -63,33 +52,35 @@ fn put_below(parent: u32, kinds: &[u32], parents: &mut [u32])
     }
 }
 
-/// Whether object is its own parent and above each type.
-#[tactic(auto, unfolding(crate::specs::Kinds::is_rooted))]
-fn is_rooted(parents: &[u32]) -> bool
-    ensures { result ≡ is_rooted parents.now }
-{
-    match parents.first() {
-        None => true,
-        Some(parent) => *parent == 0 && all_below(parents),
-    }
-}
-
-fn all_below(parents: &[u32]) -> bool
-    ensures { result ≡ list_all (λ parent. is_below parents.now parent 0) parents.now }
-{
-    parents.iter().all(|parent| is_below(parents, *parent, 0))
-}
-
 impl Reading {
     /// A type that did not stand before, whose parent is object as yet, and its number.
     fn push(&mut self, bytes: &[u8]) -> Result<u32, Fault>
         ensures number { Gives (λ kind. kind) result (Ok (length self.old.names)) }
+        ensures marked { IfOk result (λ kind. kind < length self.new.marks.items) }
         ensures added { Gives (λ _. run_of self.new) result (Ok (record (run_of self.old) { names = self.old.names ++ bytes.now ∷ []; parents = self.old.parents.items ++ 0 ∷ [] })) }
     {
         let kind = self.names.len();
+        self.marks.push(false)?;
         self.names.push(bytes)?;
         self.parents.push(0)?;
         Ok(kind)
+    }
+
+    fn is_entered(&self, kind: u32) -> bool
+        ensures { result ≡ is_entered self.now.entered.items kind }
+    {
+        kind != 0 && is_marked(self.marks.as_slice(), kind)
+    }
+
+    /// The type is entered once more.
+    #[tactic(auto, using(crate::proofs::MarkLemmas::marks_entered))]
+    fn enter_kind(&mut self, kind: u32) -> Result<(), Fault>
+        requires { kind < length self.old.marks.items }
+        ensures { Gives (λ _. run_of self.new) result (Ok (record (run_of self.old) { entered = self.old.entered.items ++ kind ∷ [] })) }
+    {
+        self.entered.push(kind)?;
+        self.marks[kind as usize] = true;
+        Ok(())
     }
 
     fn enter(&mut self, at: u32, bytes: &[u8]) -> Result<(), Fault>
@@ -98,13 +89,13 @@ impl Reading {
         match self.names.find(bytes) {
             None => {
                 let kind = self.push(bytes)?;
-                self.entered.push(kind)?;
+                self.enter_kind(kind)?;
             }
             Some(kind) => {
-                if is_entered(self.entered.as_slice(), kind) {
+                if self.is_entered(kind) {
                     return Err(Fault::Twice(at));
                 }
-                self.entered.push(kind)?;
+                self.enter_kind(kind)?;
             }
         }
         Ok(())
@@ -183,14 +174,12 @@ impl Reading {
         if self.dash {
             return Err(Fault::Shape(close));
         }
-        if !is_rooted(self.parents.as_slice()) {
+        let Reading { names, parents, .. } = self;
+        let parents = Ancestry::new(parents)?;
+        if !parents.is_rooted() {
             return Err(Fault::BadType(section));
         }
-        let Reading { names, parents, .. } = self;
-        Ok(Kinds {
-            names,
-            parents: List::from_vec(parents),
-        })
+        Ok(Kinds { names, parents })
     }
 
     fn start(alloc: Global) -> Result<Reading, Fault>
@@ -200,10 +189,13 @@ impl Reading {
         names.push(b"object")?;
         let mut parents = Vec::new(alloc);
         parents.push(0)?;
+        let mut marks = Vec::new(alloc);
+        marks.push(false)?;
         Ok(Reading {
             names,
             parents,
             entered: Vec::new(alloc),
+            marks,
             parented: 0,
             dash: false,
         })
@@ -234,8 +226,6 @@ pub fn object_alone(alloc: Global) -> Result<Kinds, Fault>
     ensures { Gives (λ kinds. kinds) result (Ok object_alone) }
 {
     let Reading { names, parents, .. } = Reading::start(alloc)?;
-    Ok(Kinds {
-        names,
-        parents: List::from_vec(parents),
-    })
+    let parents = Ancestry::new(parents)?;
+    Ok(Kinds { names, parents })
 }

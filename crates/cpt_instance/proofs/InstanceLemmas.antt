@@ -6,7 +6,6 @@ use Rattle.cpt_pddl.specs.Kinds.{is_below}
 use Rattle.cpt_schema.specs.declared.schemas.Schema.{Schema}
 use Rattle.cpt_domain.specs.declared.domain.Domain.{Domain}
 use Rattle.cpt_domain.specs.declared.domain.ObjectDecl.{ObjectDecl}
-use Rattle.cpt_domain.specs.declared.domain.TypeDecl.{TypeDecl}
 use Rattle.cpt_facts.specs.declared.problem.Problem.{Problem}
 use Rattle.cpt_facts.specs.Fitting.{objects_of}
 use Rattle.cpt_instance.specs.Choices.{AllRise, choice_at, choice_count, choices_of, list_total, member_count, members_from, object_kinds, schemas_total}
@@ -220,17 +219,17 @@ pub total_is : (d : Domain) (p : Problem) → type_correct_lists d p ≡ schemas
 total_is d p = sum-map (λ (s : Schema). list_count d p s.kinds) d.schemas ∙ sums_are d p d.schemas
 
 -- the type-correct lists are as many as the products over the schemas say
-pub total_here : (d : Domain) (p : Problem) (types : List TypeDecl) (kinds : List ℕ) (schemas : List Schema) → types ≡ d.types → kinds ≡ object_kinds d p → schemas ≡ d.schemas
-    → schemas_total (map (λ (t : TypeDecl). t.parent) types) kinds schemas ≡ type_correct_lists d p
+pub total_here : (d : Domain) (p : Problem) (types : List ℕ) (kinds : List ℕ) (schemas : List Schema) → types ≡ parents_of d → kinds ≡ object_kinds d p → schemas ≡ d.schemas
+    → schemas_total types kinds schemas ≡ type_correct_lists d p
 total_here d p types kinds schemas et ek es =
-    ap (λ (ts : List TypeDecl). schemas_total (map (λ (t : TypeDecl). t.parent) ts) kinds schemas) et
+    ap (λ ts. schemas_total ts kinds schemas) et
     ∙ ap (λ ks. schemas_total (parents_of d) ks schemas) ek
     ∙ ap (λ (ss : List Schema). schemas_total (parents_of d) (object_kinds d p) ss) es
     ∙ sym (total_is d p)
 
 -- the type-correct lists, as they are counted
-pub counted : (d : Domain) (p : Problem) (types : List TypeDecl) (kinds : List ℕ) (schemas : List Schema) (n : ℕ) → types ≡ d.types → kinds ≡ object_kinds d p → schemas ≡ d.schemas
-    → n ≡ min (schemas_total (map (λ (t : TypeDecl). t.parent) types) kinds schemas) 1000001 → n ≡ min (type_correct_lists d p) 1000001
+pub counted : (d : Domain) (p : Problem) (types : List ℕ) (kinds : List ℕ) (schemas : List Schema) (n : ℕ) → types ≡ parents_of d → kinds ≡ object_kinds d p → schemas ≡ d.schemas
+    → n ≡ min (schemas_total types kinds schemas) 1000001 → n ≡ min (type_correct_lists d p) 1000001
 counted d p types kinds schemas n et ek es e = e ∙ ap (λ k. min k 1000001) (total_here d p types kinds schemas et ek es)
 
 -- the ways to choose, as they are counted
@@ -246,11 +245,11 @@ pub ways_rise : (parents kinds wanted : List ℕ) (choices : List (List ℕ)) �
 ways_rise parents kinds wanted choices e = subst AllRise (sym e) (all_rise parents kinds wanted)
 
 -- what is listed is all instances
-pub listed : (d : Domain) (p : Problem) (m : ValueMap) (types : List TypeDecl) (kinds : List ℕ) (schemas : List Schema) (xs : List Instance)
-    → types ≡ d.types → kinds ≡ object_kinds d p → schemas ≡ d.schemas → HasValues p.values m
-    → AreAll (IsOfFirst m schemas (length schemas) (map (λ (t : TypeDecl). t.parent) types) kinds) xs → AreInstances d p xs
+pub listed : (d : Domain) (p : Problem) (m : ValueMap) (types : List ℕ) (kinds : List ℕ) (schemas : List Schema) (xs : List Instance)
+    → types ≡ parents_of d → kinds ≡ object_kinds d p → schemas ≡ d.schemas → HasValues p.values m
+    → AreAll (IsOfFirst m schemas (length schemas) types kinds) xs → AreInstances d p xs
 listed d p m types kinds schemas xs et ek es values h =
     are_instances d p m xs values
     (subst (λ (ss : List Schema). AreAll (IsOfFirst m ss (length ss) (parents_of d) (object_kinds d p)) xs) es
     (subst (λ ks. AreAll (IsOfFirst m schemas (length schemas) (parents_of d) ks) xs) ek
-    (subst (λ (ts : List TypeDecl). AreAll (IsOfFirst m schemas (length schemas) (map (λ (t : TypeDecl). t.parent) ts) kinds) xs) et h)))
+    (subst (λ ts. AreAll (IsOfFirst m schemas (length schemas) ts kinds) xs) et h)))

@@ -1,26 +1,19 @@
 //! The ways to choose an object of each type.
 
-ghost use Rattle.std.specs.Prelude.{◌≡◌, ◌<◌, ◌≤◌, IfOk, length, map};
-ghost use Rattle.cpt_domain.specs.declared.domain.TypeDecl.{TypeDecl};
+ghost use Rattle.std.specs.Prelude.{◌≡◌, ◌<◌, ◌≤◌, IfOk, length};
 ghost use Rattle.cpt_instance.specs.Choices.{choice_at, choice_count, choices_of, members_from};
 
-use crate::names::is_below;
-use cpt_domain::TypeDecl;
+use cpt_pddl::Ancestry;
 use cpt_task::{List, Memory};
 use std::alloc::Global;
 
-fn members(
-    alloc: Global,
-    types: &[TypeDecl],
-    kinds: &[u32],
-    wanted: u32,
-) -> Result<List<u32>, Memory>
+fn members(alloc: Global, types: &Ancestry, kinds: &[u32], wanted: u32) -> Result<List<u32>, Memory>
     requires { length kinds.now ≤ 4096 }
-    ensures { IfOk result (λ members. members ≡ members_from (map (λ (t : TypeDecl). t.parent) types.now) wanted 0 kinds.now) }
+    ensures { IfOk result (λ members. members ≡ members_from types.now wanted 0 kinds.now) }
 {
     let mut members = Vec::new(alloc);
     for (k, kind) in kinds.iter().enumerate() {
-        if is_below(types, *kind, wanted) {
+        if types.is_below(*kind, wanted) {
             members.push(k as u32)?;
         }
     }
@@ -30,12 +23,12 @@ fn members(
 /// The objects of each wanted type, by number.
 pub fn choices_of(
     alloc: Global,
-    types: &[TypeDecl],
+    types: &Ancestry,
     kinds: &[u32],
     wanted: &[u32],
 ) -> Result<Vec<List<u32>>, Memory>
     requires { length kinds.now ≤ 4096 }
-    ensures { IfOk result (λ choices. choices.items ≡ choices_of (map (λ (t : TypeDecl). t.parent) types.now) kinds.now wanted.now) }
+    ensures { IfOk result (λ choices. choices.items ≡ choices_of types.now kinds.now wanted.now) }
 {
     let mut choices = Vec::new(alloc);
     for kind in wanted {

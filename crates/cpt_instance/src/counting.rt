@@ -1,12 +1,11 @@
 //! How many type-correct lists of objects there are.
 
-ghost use Rattle.std.specs.Prelude.{◌≡◌, ◌≤◌, IfOk, length, map, min};
-ghost use Rattle.cpt_domain.specs.declared.domain.TypeDecl.{TypeDecl};
+ghost use Rattle.std.specs.Prelude.{◌≡◌, ◌≤◌, IfOk, length, min};
 ghost use Rattle.cpt_instance.specs.Choices.{list_total, member_count, object_kinds, schemas_total};
 
-use crate::names::is_below;
-use cpt_domain::{Domain, Schema, TypeDecl};
+use cpt_domain::{Domain, Schema};
 use cpt_facts::Problem;
+use cpt_pddl::Ancestry;
 use cpt_task::Memory;
 use std::alloc::Global;
 
@@ -23,19 +22,19 @@ pub fn object_kinds(alloc: Global, domain: &Domain, problem: &Problem) -> Result
     Ok(kinds.collect(alloc)?)
 }
 
-fn member_count(types: &[TypeDecl], kinds: &[u32], wanted: u32) -> usize
-    ensures { result ≡ member_count (map (λ (t : TypeDecl). t.parent) types.now) kinds.now wanted }
+fn member_count(types: &Ancestry, kinds: &[u32], wanted: u32) -> usize
+    ensures { result ≡ member_count types.now kinds.now wanted }
 {
     kinds
         .iter()
-        .filter(|kind| is_below(types, **kind, wanted))
+        .filter(|kind| types.is_below(**kind, wanted))
         .count()
 }
 
 /// How many lists have an object of each type, and 1,000,001 where they are more.
-pub fn list_count(types: &[TypeDecl], kinds: &[u32], wanted: &[u32]) -> usize
+pub fn list_count(types: &Ancestry, kinds: &[u32], wanted: &[u32]) -> usize
     requires { length kinds.now ≤ 4096 }
-    ensures { result ≡ min (list_total (map (λ (t : TypeDecl). t.parent) types.now) kinds.now wanted.now) 1000001 }
+    ensures { result ≡ min (list_total types.now kinds.now wanted.now) 1000001 }
 {
     let mut count = 1;
     for kind in wanted {
@@ -45,9 +44,9 @@ pub fn list_count(types: &[TypeDecl], kinds: &[u32], wanted: &[u32]) -> usize
 }
 
 /// How many type-correct lists the schemas have, and 1,000,001 where they are more.
-pub fn schemas_count(types: &[TypeDecl], kinds: &[u32], schemas: &[Schema]) -> usize
+pub fn schemas_count(types: &Ancestry, kinds: &[u32], schemas: &[Schema]) -> usize
     requires { length kinds.now ≤ 4096 }
-    ensures { result ≡ min (schemas_total (map (λ (t : TypeDecl). t.parent) types.now) kinds.now schemas.now) 1000001 }
+    ensures { result ≡ min (schemas_total types.now kinds.now schemas.now) 1000001 }
 {
     let mut count = 0;
     for schema in schemas {

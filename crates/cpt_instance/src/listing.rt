@@ -1,10 +1,10 @@
 //! All instances of a domain and a problem.
 
-ghost use Rattle.std.specs.Prelude.{◌≡◌, ◌≤◌, ◌++◌, ◌∷◌, [], IfOk, OnOk, MatchBool, length, map, ◌+◌};
-ghost use Rattle.cpt_domain.specs.declared.domain.TypeDecl.{TypeDecl};
+ghost use Rattle.std.specs.Prelude.{◌≡◌, ◌≤◌, ◌++◌, ◌∷◌, [], IfOk, OnOk, MatchBool, length, ◌+◌};
 ghost use Rattle.cpt_facts.specs.Fitting.{Fits};
 ghost use Rattle.cpt_instance.specs.Choices.{AllRise, choice_count, list_total, schemas_total};
 ghost use Rattle.cpt_instance.specs.Durations.{HasValues};
+ghost use Rattle.cpt_instance.specs.Instances.{parents_of};
 ghost use Rattle.cpt_instance.specs.Listing.{Adds, AddsWhere, AreAll, IsChosen, IsKept, IsOfFirst, IsOfSchema, ListsInstances};
 
 use crate::choices::{choice_at, choices_of};
@@ -13,8 +13,9 @@ use crate::durations::{ValueMap, duration_in};
 use crate::error::GroundError;
 use crate::instances::Instance;
 use crate::values::tests_hold;
-use cpt_domain::{Domain, Schema, TypeDecl};
+use cpt_domain::{Domain, Schema};
 use cpt_facts::Problem;
+use cpt_pddl::Ancestry;
 use cpt_task::{Limit, List, Memory};
 use std::alloc::Global;
 
@@ -71,7 +72,7 @@ fn push_chosen(
 
 fn push_of_schema(
     alloc: Global,
-    types: &[TypeDecl],
+    types: &Ancestry,
     kinds: &[u32],
     values: &ValueMap,
     schema: &Schema,
@@ -79,9 +80,9 @@ fn push_of_schema(
     found: &mut Vec<Instance>,
 ) -> Result<(), Memory>
     requires objects { length kinds.now ≤ 4096 }
-    requires few { list_total (map (λ (t : TypeDecl). t.parent) types.now) kinds.now schema.now.kinds ≤ 1000000 }
-    ensures adds { OnOk result (Adds (IsOfSchema values.now schema.now number (map (λ (t : TypeDecl). t.parent) types.now) kinds.now) found.old.items found.new.items) }
-    ensures few { OnOk result (length found.new.items ≤ length found.old.items + list_total (map (λ (t : TypeDecl). t.parent) types.now) kinds.now schema.now.kinds) }
+    requires few { list_total types.now kinds.now schema.now.kinds ≤ 1000000 }
+    ensures adds { OnOk result (Adds (IsOfSchema values.now schema.now number types.now kinds.now) found.old.items found.new.items) }
+    ensures few { OnOk result (length found.new.items ≤ length found.old.items + list_total types.now kinds.now schema.now.kinds) }
 {
     let wanted = schema.kinds.as_slice();
     let choices = choices_of(alloc, types, kinds, wanted)?;
@@ -99,21 +100,30 @@ fn push_of_schema(
 
 fn of_schemas(
     alloc: Global,
-    types: &[TypeDecl],
+    types: &Ancestry,
     kinds: &[u32],
     values: &ValueMap,
     schemas: &[Schema],
 ) -> Result<Vec<Instance>, Memory>
     requires objects { length kinds.now ≤ 4096 }
-    requires few { schemas_total (map (λ (t : TypeDecl). t.parent) types.now) kinds.now schemas.now ≤ 1000000 }
-    ensures all { IfOk result (λ found. AreAll (IsOfFirst values.now schemas.now (length schemas.now) (map (λ (t : TypeDecl). t.parent) types.now) kinds.now) found.items) }
-    ensures few { IfOk result (λ found. length found.items ≤ schemas_total (map (λ (t : TypeDecl). t.parent) types.now) kinds.now schemas.now) }
+    requires few { schemas_total types.now kinds.now schemas.now ≤ 1000000 }
+    ensures all { IfOk result (λ found. AreAll (IsOfFirst values.now schemas.now (length schemas.now) types.now kinds.now) found.items) }
+    ensures few { IfOk result (λ found. length found.items ≤ schemas_total types.now kinds.now schemas.now) }
 {
     let mut found = Vec::new(alloc);
     for (number, schema) in schemas.iter().enumerate() {
         push_of_schema(alloc, types, kinds, values, schema, number, &mut found)?;
     }
     Ok(found)
+}
+
+/// The types of the domain, by their parents.
+fn ancestry_of(alloc: Global, domain: &Domain) -> Result<Ancestry, Memory>
+    ensures { IfOk result (λ types. types ≡ parents_of domain.now) }
+{
+    let types = domain.types.as_slice();
+    let parents: Vec<u32> = types.iter().map(|t| t.parent).collect(alloc)?;
+    Ancestry::new(parents)
 }
 
 /// All instances, in order of schema, then of the objects. `Limit(Instances)` exactly where the type-correct lists,
@@ -129,11 +139,11 @@ pub fn instances_of(
     ensures exact { ListsInstances domain.now problem.now result }
     ensures few { IfOk result (λ instances. length instances ≤ 1000000) }
 {
-    let types = domain.types.as_slice();
+    let types = ancestry_of(alloc, domain)?;
     let schemas = domain.schemas.as_slice();
     let kinds = object_kinds(alloc, domain, problem)?;
-    if schemas_count(types, &kinds, schemas) > LIST_LIMIT {
+    if schemas_count(&types, &kinds, schemas) > LIST_LIMIT {
         return Err(GroundError::Limit(Limit::Instances));
     }
-    Ok(List::from_vec(of_schemas(alloc, types, &kinds, values, schemas)?))
+    Ok(List::from_vec(of_schemas(alloc, &types, &kinds, values, schemas)?))
 }

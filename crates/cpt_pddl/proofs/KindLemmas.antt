@@ -3,7 +3,7 @@ use Rattle.std.specs.Prelude.{if◌then◌else◌}
 use Rattle.std.proofs.lemmas.Bool.Decides.{nat_tests}
 use Rattle.cpt_pddl.specs.Kinds.{climbs}
 
-differs : (a b : ℕ) → a ≢ b → nat_eq a b ≡ false
+pub differs : (a b : ℕ) → a ≢ b → nat_eq a b ≡ false
 differs a b h = grind (arith, nat_tests)
 
 -- one step up from a type that is neither the wanted one nor type 0

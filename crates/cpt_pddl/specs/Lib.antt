@@ -1,6 +1,8 @@
+pub mod Ancestries
 pub mod Faults
 pub mod Items
 pub mod Kinds
+pub mod Ladders
 pub mod Names
 pub mod Reading
 pub mod Runs

@@ -1,14 +1,17 @@
 //! What the readers of domains and of problems share: places in a parsed text, words, names, typed lists, faults.
 #![tactic(auto)]
 
+mod ancestry;
 mod cursor;
 mod fault;
 mod kinds;
+mod ladder;
 mod names;
 mod reading;
 mod typed;
 mod words;
 
+pub use ancestry::Ancestry;
 pub use cursor::{Cursor, Next};
 pub use fault::{Fault, Feature};
 pub use kinds::{is_below, kind_at};

@@ -8,7 +8,7 @@ ghost use Rattle.cpt_problem.specs.Objects.{applied, atom_in, function_term, nex
 
 use cpt_declared::{Declared, Signatures};
 use cpt_facts::Fact;
-use cpt_pddl::{Cursor, Fault, Next, Typed, is_below, is_name, is_variable, kind_at};
+use cpt_pddl::{Cursor, Fault, Next, Typed, is_name, is_variable, kind_at};
 use cpt_task::List;
 use std::alloc::Global;
 
@@ -50,7 +50,7 @@ fn typed_object(declared: &Declared, wanted: u32, at: u32, bytes: &[u8]) -> Resu
     ensures { Gives (λ object. object) result (typed_object declared.now wanted at bytes.now) }
 {
     let (object, kind) = object_at(&declared.constants, at, bytes)?;
-    if is_below(declared.types.parents.as_slice(), kind, wanted) {
+    if declared.types.parents.is_below(kind, wanted) {
         Ok(object)
     } else {
         Err(Fault::BadType(at))

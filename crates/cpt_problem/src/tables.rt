@@ -7,7 +7,7 @@ ghost use Rattle.cpt_problem.specs.Tables.{declared_of, function_kinds, function
 
 use cpt_declared::{Declared, Kinds, Signatures};
 use cpt_domain::{Domain, Function, ObjectDecl, Predicate, TypeDecl};
-use cpt_pddl::{Fault, Names, Typed};
+use cpt_pddl::{Ancestry, Fault, Names, Typed};
 use cpt_task::List;
 use std::alloc::Global;
 
@@ -51,11 +51,11 @@ fn function_names(alloc: Global, functions: &[Function]) -> Result<Names, Fault>
     Ok(names)
 }
 
-fn type_parents(alloc: Global, types: &[TypeDecl]) -> Result<List<u32>, Fault>
+fn type_parents(alloc: Global, types: &[TypeDecl]) -> Result<Ancestry, Fault>
     ensures { Gives (λ parents. parents) result (Ok (type_parents types.now)) }
 {
     let parents: Vec<u32> = types.iter().map(|t| t.parent).collect(alloc)?;
-    Ok(List::from_vec(parents))
+    Ok(Ancestry::new(parents)?)
 }
 
 fn object_kinds(alloc: Global, objects: &[ObjectDecl]) -> Result<List<u32>, Fault>

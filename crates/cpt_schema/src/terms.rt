@@ -6,7 +6,7 @@ ghost use Rattle.cpt_pddl.specs.Items.{left};
 ghost use Rattle.cpt_schema.specs.Terms.{applied, atom_in, extra_term, next_term, object_at, param_at, same_lit, same_term, same_terms, term_at, terms_in, terms_rest, typed_term};
 
 use cpt_declared::{Declared, Signatures};
-use cpt_pddl::{Cursor, Fault, Next, Typed, is_below, is_name, is_variable, kind_at};
+use cpt_pddl::{Cursor, Fault, Next, Typed, is_name, is_variable, kind_at};
 use cpt_task::{Limit, List};
 use std::alloc::Global;
 
@@ -76,7 +76,7 @@ fn typed_term(
     ensures { Gives (λ term. term) result (typed_term declared.now params.now wanted at bytes.now) }
 {
     let (term, kind) = term_at(declared, params, at, bytes)?;
-    if is_below(declared.types.parents.as_slice(), kind, wanted) {
+    if declared.types.parents.is_below(kind, wanted) {
         Ok(term)
     } else {
         Err(Fault::BadType(at))

@@ -1,15 +1,14 @@
-use Rattle.std.proofs.Common.{◌≡◌, ◌+◌, List, ℕ, ap, map, take, arith}
+use Rattle.std.proofs.Common.{◌≡◌, ◌+◌, List, ℕ, ap, take, arith}
 use Rattle.std.specs.Prelude.{slice_index_or}
 use Rattle.std.proofs.lemmas.List.Sums.{sum_by_more}
 use Rattle.cpt_schema.specs.declared.schemas.Schema.{Schema}
 use Rattle.cpt_instance.specs.Choices.{list_total, schemas_total}
-use Rattle.cpt_domain.specs.declared.domain.TypeDecl.{TypeDecl}
 use Rattle.cpt_instance.proofs.InstanceLemmas.{one_more_of}
 use Rattle.cpt_instance.proofs.listing.of_schemas.Goals as goal
 
 pub loop-number-preserved : goal.loop-number-preserved
 loop-number-preserved c =
-    let parents : List ℕ = map (λ (t : TypeDecl). t.parent) c.args.types.now in
+    let parents : List ℕ = c.args.types.now in
     record {
       all =
           one_more_of c.args.values.now c.args.schemas.now c.loop-number.number c.index-schemas-number.result parents c.args.kinds.now

@@ -1,6 +1,5 @@
-use Rattle.std.proofs.Common.{◌≡◌, ◌∙◌, ◌≤◌, ◌+◌, List, ℕ, ap, map, length, arith}
+use Rattle.std.proofs.Common.{◌≡◌, ◌∙◌, ◌≤◌, ◌+◌, List, ℕ, ap, length, arith}
 use Rattle.std.specs.Prelude.{Result, Ok, Err, OnOk}
-use Rattle.cpt_domain.specs.declared.domain.TypeDecl.{TypeDecl}
 use Rattle.cpt_instance.specs.Choices.{choices_of, list_total}
 use Rattle.cpt_instance.specs.Listing.{Adds, IsChosen, IsOfSchema}
 use Rattle.cpt_instance.proofs.InstanceLemmas.{all_places, ways_counted, ways_rise}
@@ -12,7 +11,7 @@ on_ok_map (Err e) P Q f h = h
 
 pub push_chosen-requires-clause-total : goal.push_chosen-requires-clause-total
 push_chosen-requires-clause-total c =
-    let parents : List ℕ = map (λ (t : TypeDecl). t.parent) c.args.types.now in
+    let parents : List ℕ = c.args.types.now in
     let chosen : c.as_slice.result.now ≡ choices_of parents c.args.kinds.now c.args.schema.now.kinds =
     c.as_slice.ensures.value ∙ c.in_ok-choices.ensures ∙ ap (choices_of parents c.args.kinds.now) c.as_slice-wanted.ensures in
     ways_counted parents c.args.kinds.now c.as_slice-wanted.result.now c.args.schema.now.kinds c.as_slice.result.now c.list_count-count.result
@@ -20,12 +19,12 @@ push_chosen-requires-clause-total c =
 
 pub push_chosen-requires-clause-ordered : goal.push_chosen-requires-clause-ordered
 push_chosen-requires-clause-ordered c =
-    let parents : List ℕ = map (λ (t : TypeDecl). t.parent) c.args.types.now in
+    let parents : List ℕ = c.args.types.now in
     ways_rise parents c.args.kinds.now c.as_slice-wanted.result.now c.as_slice.result.now (c.as_slice.ensures.value ∙ c.in_ok-choices.ensures)
 
 pub returns-clause-adds : goal.returns-clause-adds
 returns-clause-adds c =
-    let parents : List ℕ = map (λ (t : TypeDecl). t.parent) c.args.types.now in
+    let parents : List ℕ = c.args.types.now in
     let chosen : c.as_slice.result.now ≡ choices_of parents c.args.kinds.now c.args.schema.now.kinds =
     c.as_slice.ensures.value ∙ c.in_ok-choices.ensures ∙ ap (choices_of parents c.args.kinds.now) c.as_slice-wanted.ensures in
     on_ok_map c.push_chosen.result
@@ -39,7 +38,7 @@ returns-clause-adds c =
 
 pub returns-clause-few : goal.returns-clause-few
 returns-clause-few c =
-    let parents : List ℕ = map (λ (t : TypeDecl). t.parent) c.args.types.now in
+    let parents : List ℕ = c.args.types.now in
     let same : list_total parents c.args.kinds.now c.as_slice-wanted.result.now ≡ list_total parents c.args.kinds.now c.args.schema.now.kinds =
     ap (list_total parents c.args.kinds.now) c.as_slice-wanted.ensures in
     let few : c.list_count-count.result ≤ list_total parents c.args.kinds.now c.args.schema.now.kinds = omega (arith, c.list_count-count.ensures, same) in
