@@ -1,4 +1,4 @@
-//! The text of certificates: the lines of its two versions, and the whole certificate that a text spells.
+//! The text of certificates: the lines of its two versions, read and written, and the text of a whole certificate.
 #![tactic(auto)]
 
 mod forms;

@@ -1,4 +1,4 @@
-//! The checker of certificates.
+//! Trees read line by line, and rows of tables.
 #![tactic(auto)]
 
 mod rows;
