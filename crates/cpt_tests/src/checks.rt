@@ -120,6 +120,12 @@ const CHAIN: &str = "(define (domain chain) (:predicates (k) (g))
 
 const LINKED: &str = "(define (problem linked) (:domain chain) (:init) (:goal (g)))";
 
+/// The chain behind an action that can never start, with which two atoms are never reached.
+const PRUNED: &str = "(define (domain chain) (:predicates (z) (k) (g) (w))
+(:durative-action x :parameters () :duration (= ?duration 1) :condition (over all (z)) :effect (at end (w)))
+(:durative-action u :parameters () :duration (= ?duration 1) :condition () :effect (at end (k)))
+(:durative-action v :parameters () :duration (= ?duration 2) :condition (over all (k)) :effect (at end (g))))";
+
 /// Tables of zeros are admissible, and the tree refutes the bound 2 by a branch.
 const BRANCHED: &[&str] = &[
     "cpt 1",
@@ -297,6 +303,45 @@ const OVER_AT_HAND: [Change; 2] = [
     (5, &["h 0"], 1, "version 1\nrejected: line 2: goal\n"),
 ];
 
+/// A certificate has the numbers of the kept task, which `ground` writes.
+const OVER_PRUNED: [Change; 2] = [
+    (0, &[], 0, "version 1\naccepted: optimal 3\n"),
+    (3, &["task 4 3"], 1, "version 1\nrejected: line 3: task\n"),
+];
+
+/// A door is shut, and what may be painted only while it is not open.
+const DOORS: &str = "(define (domain doors) (:predicates (open) (painted))
+(:durative-action shut :parameters () :duration (= ?duration 3) :condition (over all (open)) :effect (at end (not (open))))
+(:durative-action paint :parameters () :duration (= ?duration 2) :condition (over all (not (open))) :effect (at end (painted))))";
+
+const ONE_DOOR: &str =
+    "(define (problem one) (:domain doors) (:init (open)) (:goal (and (painted) (not (open)))))";
+
+/// The atom that stands for the absence of another is the last of three.
+const SHUT: &[&str] = &[
+    "cpt 2",
+    "claim optimal 5",
+    "task 3 2",
+    "plan 2",
+    "0 0",
+    "3 1",
+    "pairs",
+    "h 0 never*2",
+    "h 5*2",
+    "h 3",
+    "dists",
+    "d never 0*2",
+    "d never 0*2",
+    "tree 4",
+    "close",
+    "end",
+];
+
+const OVER_SHUT: [Change; 2] = [
+    (0, &[], 0, "version 2\naccepted: optimal 5\n"),
+    (6, &["2 1"], 1, "version 2\nrejected: line 4: plan\n"),
+];
+
 fn push_lines(text: &mut String, lines: &[&str]) -> Result<(), AllocError> {
     for line in lines {
         text.push_str(line)?;
@@ -393,6 +438,13 @@ fn certificates_with_a_branch_or_with_steps(rt: HostRuntime) -> Result<(), Fail>
     let alloc = rt.alloc();
     expect_changes(&rt, alloc, CHAIN, LINKED, BRANCHED, &OVER_BRANCHED)?;
     expect_changes(&rt, alloc, CHAIN, LINKED, STEPPED, &OVER_STEPPED)
+}
+
+#[test]
+fn certificates_of_tasks_that_are_pruned_or_have_complements(rt: HostRuntime) -> Result<(), Fail> {
+    let alloc = rt.alloc();
+    expect_changes(&rt, alloc, PRUNED, LINKED, BRANCHED, &OVER_PRUNED)?;
+    expect_changes(&rt, alloc, DOORS, ONE_DOOR, SHUT, &OVER_SHUT)
 }
 
 #[test]
@@ -496,6 +548,24 @@ fn each_failing_read_of_a_check_is_the_last_call(rt: HostRuntime) -> Result<(), 
         );
     }
     assert!(rt; !reads_fail_at(&rt, alloc, cert.as_str(), 17)?);
+    Ok(())
+}
+
+#[test]
+fn nothing_is_read_behind_a_fault(rt: HostRuntime) -> Result<(), Fail> {
+    let alloc = rt.alloc();
+    let cert = text_with(alloc, OPTIMAL, 1, &["cpt 3"])?;
+    let words = words_of(alloc, CHECK)?;
+    let files = [("d", KEY), ("p", BOTH), ("c", cert.as_str())];
+    // The fault stands in the first piece of the certificate, which the fifteenth call gives; the next one would fail.
+    let mut lib = CountingLibrary {
+        inner: library(alloc, &files, &[15], 64)?,
+        calls: 0,
+    };
+    let mut out = output(alloc, &[])?;
+    assert_eq!(rt; run(alloc, &words, &mut lib, &mut out), 1);
+    assert_eq!(rt; lib.calls, 15);
+    assert_eq!(rt; out.written(), b"rejected: line 1: grammar\n".as_slice());
     Ok(())
 }
 
