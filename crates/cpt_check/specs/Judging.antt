@@ -29,8 +29,8 @@ pub record IsFront (text : List ℕ) (bytes : ℕ) (ls : List CertLine) : Type 0
   pub each : AllZip IsReadAs bodies ls
   pub size : bytes ≡ length (ended bodies)
 
--- The fault stands in these lines: read as a text of their own they have it first, at one of them. Then every text that
--- begins with them has it first.
+-- The fault stands in these lines: read as a text of their own they have it first, at one of them. So it is not that they
+-- end too early.
 pub record StandsIn (t : TaskShape) (ls : List CertLine) (line : ℕ) (why : Why) : Type 0 where
   pub fault : ReadsAll t ls (faulted line why)
   pub within : line ≤ length ls

@@ -2,42 +2,15 @@
 
 ghost use Rattle.std.specs.Prelude.{◌<◌, ◌≤◌, ◌^◌};
 
+use crate::scene::{CHAIN_TASK, EASY_TASK, KEY_TASK, LOST_TASK, MIXED_TASK, task_of};
 use cpt_cert::{Claim, Version};
 use cpt_check::{CheckError, Judged, Ruling, check};
 use cpt_io::{Library, MemLibrary};
 use cpt_task::{List, Task};
-use cpt_task_text::read_task;
 use cpt_verdict::Why;
 use std::alloc::{AllocError, Global};
 use std::process::Abort;
 use std::test::Fail;
-
-/// A resource, and a key that two actions use up.
-const MIXED_TASK: &str = "task 5 4
-atom (r)
-atom (k)
-atom (g1)
-atom (g2)
-atom (h)
-action (make) 1
-pre
-add 1
-del
-action (use1) 2
-pre 0 1
-add 2
-del 1
-action (use2) 2
-pre 1
-add 3
-del 1
-action (hold) 3
-pre 0
-add 0 4
-del 0
-init 0
-goal 2 3 4
-";
 
 /// Both decisions on needs and that on orders, and steps of each rule but the tenth, in each of their variants.
 const MIXED: &str = "cpt 1
@@ -92,27 +65,6 @@ open
 end
 ";
 
-/// A key that one action makes and two others use up.
-const KEY_TASK: &str = "task 3 3
-atom (k)
-atom (g1)
-atom (g2)
-action (u) 1
-pre
-add 0
-del
-action (v1) 2
-pre 0
-add 1
-del 0
-action (v2) 2
-pre 0
-add 2
-del 0
-init
-goal 1 2
-";
-
 /// Each kind of flaw, in the second version.
 const KEY: &str = "cpt 2
 claim spent 5 6
@@ -155,22 +107,6 @@ open
 end
 ";
 
-/// An action that adds the key, and one that needs it and adds the goal.
-const CHAIN_TASK: &str = "task 2 2
-atom (k)
-atom (g)
-action (u) 1
-pre
-add 0
-del
-action (v) 2
-pre 0
-add 1
-del
-init
-goal 1
-";
-
 /// Tables of zeros, and steps of the tenth rule and the seventh.
 const CHAIN: &str = "cpt 1
 claim optimal 3
@@ -192,26 +128,12 @@ close
 end
 ";
 
-/// A task of one atom that no action adds.
-const LOST_TASK: &str = "task 1 0
-atom (g)
-init
-goal 0
-";
-
 const LOST: &str = "cpt 2
 claim none
 task 1 0
 pairs
 h never
 end
-";
-
-/// A task whose goal holds at the start.
-const EASY_TASK: &str = "task 1 0
-atom (g)
-init 0
-goal 0
 ";
 
 const EASY: &str = "cpt 1
@@ -279,14 +201,6 @@ fn text_of(alloc: Global, lines: &str, change: Change) -> Result<Vec<u8>, AllocE
         }
     }
     Ok(text)
-}
-
-fn task_of(alloc: Global, lines: &str) -> Option<Task> {
-    let text = text_of(alloc, lines, Change::None).ok()?;
-    if text.len() > 4096 {
-        return None;
-    }
-    read_task(alloc, text.as_slice()).ok()
 }
 
 /// What is said of the text, of which a pull gives at most so many bytes.

@@ -8,4 +8,6 @@ mod lines;
 #[cfg(test)]
 mod printed;
 #[cfg(test)]
+mod scene;
+#[cfg(test)]
 mod walks;

@@ -6,41 +6,14 @@ ghost use Rattle.cpt_tables.specs.Shapes.{FitsPairs, FitsDists};
 ghost use Rattle.cpt_sheet.specs.Gaps.{FitsTask};
 ghost use Rattle.cpt_cert.specs.Whole.{IsWhole};
 
+use crate::scene::{KEY_TASK, task_of};
 use cpt_cert::{Cert, Claim, Version, cert_len, print_cert};
 use cpt_io::{MemSink, Sink};
 use cpt_sheet::{NodeLine, Tree};
 use cpt_tables::{DistTable, PairTable, Tables};
-use cpt_task::{Action, Ids, List, Span, Task};
+use cpt_task::{List, Span, Task};
 use std::alloc::Global;
 use std::test::Fail;
-
-fn ids(alloc: Global, xs: &[u32]) -> Option<Ids> {
-    Ids::from_vec(Vec::from_slice(alloc, xs).ok()?)
-}
-
-fn action(alloc: Global, dur: u32, pre: &[u32], add: &[u32]) -> Option<Action> {
-    Some(Action {
-        name: List::from_vec(Vec::new(alloc)),
-        dur,
-        pre: ids(alloc, pre)?,
-        add: ids(alloc, add)?,
-        dele: ids(alloc, pre)?,
-    })
-}
-
-// The first action adds the key, and each of the others needs it, uses it up and adds an atom of the goal.
-fn key_task(alloc: Global) -> Option<Task> {
-    let name = || List::from_vec(Vec::new(alloc));
-    let atoms = vec![in alloc; name(), name(), name()].ok()?;
-    let make = action(alloc, 1, &[], &[0])?;
-    let first = action(alloc, 2, &[0], &[1])?;
-    let second = action(alloc, 2, &[0], &[2])?;
-    let actions = vec![in alloc; make, first, second].ok()?;
-    if atoms.len() > 9 || actions.len() > 9 {
-        return None;
-    }
-    Task::build(atoms, actions, ids(alloc, &[])?, ids(alloc, &[1, 2])?).ok()
-}
 
 fn put_pair(task: &Task, pairs: &mut PairTable, p: u32, q: u32, n: u64)
     requires fits { FitsPairs task.now pairs.old }
@@ -125,7 +98,7 @@ fn refutation<'a>(task: &Task, tables: &'a Tables, tree: &'a Tree) -> Cert<'a>
 
 // What is written where these puts fail, whether it was all, and the length of the text.
 fn printed(alloc: Global, version: Version, fail: &[u64]) -> Option<(MemSink, bool, u64)> {
-    let task = key_task(alloc)?;
+    let task = task_of(alloc, KEY_TASK)?;
     let tables = key_tables(alloc, &task)?;
     let tree = closed_tree(alloc)?;
     let cert = refutation(&task, &tables, &tree);

@@ -1,40 +1,16 @@
-//! One action adds the key that the other needs: trees at bound 2, over tables of zeros.
+//! Trees at bound 2 over tables of zeros, where one action adds the key that the other needs.
 
 ghost use Rattle.std.specs.Prelude.{IfSome, IfOk};
 ghost use Rattle.cpt_sheet.specs.Gaps.{FitsTask};
 ghost use Rattle.cpt_walk.specs.Walks.{IsWalk, IsSoundTurn};
 
+use crate::scene::{CHAIN_TASK, task_of};
 use cpt_calculus::{Decision, Flaw, NodeLine, Step, root};
 use cpt_tables::{DistTable, PairTable, Tables};
-use cpt_task::{Action, Ids, List, Span, Task};
+use cpt_task::{Span, Task};
 use cpt_verdict::Why;
 use cpt_walk::{Turn, Walk, begin_tree, is_read, take_node};
 use std::alloc::Global;
-
-fn ids(alloc: Global, xs: &[u32]) -> Option<Ids> {
-    Ids::from_vec(Vec::from_slice(alloc, xs).ok()?)
-}
-
-fn action(alloc: Global, dur: u32, pre: &[u32], add: &[u32]) -> Option<Action> {
-    Some(Action {
-        name: List::from_vec(Vec::new(alloc)),
-        dur,
-        pre: ids(alloc, pre)?,
-        add: ids(alloc, add)?,
-        dele: ids(alloc, &[])?,
-    })
-}
-
-// The first action adds the key, and the second needs it and adds the goal.
-fn sample(alloc: Global) -> Option<Task> {
-    let name = || List::from_vec(Vec::new(alloc));
-    let atoms = vec![in alloc; name(), name()].ok()?;
-    let actions = vec![in alloc; action(alloc, 1, &[], &[0])?, action(alloc, 2, &[0], &[1])?].ok()?;
-    if atoms.len() > 9 || actions.len() > 9 {
-        return None;
-    }
-    Task::build(atoms, actions, ids(alloc, &[])?, ids(alloc, &[1])?).ok()
-}
 
 fn zeros(alloc: Global, task: &Task) -> Option<Tables>
     ensures { IfSome result (FitsTask task.now) }
@@ -89,7 +65,7 @@ fn judged(alloc: Global, bound: u64, lines: &[NodeLine]) -> Option<Result<bool, 
     if bound > 1000 {
         return None;
     }
-    let task = sample(alloc)?;
+    let task = task_of(alloc, CHAIN_TASK)?;
     let tables = zeros(alloc, &task)?;
     let sheet = root(alloc, &task, &tables, bound).ok()?;
     let walk = begin_tree(alloc, sheet, false);

@@ -2,6 +2,8 @@
 #![tactic(auto)]
 
 #[cfg(test)]
+mod ancestry;
+#[cfg(test)]
 mod domain_features;
 #[cfg(test)]
 mod domain_limits;

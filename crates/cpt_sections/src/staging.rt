@@ -110,12 +110,10 @@ pub(crate) fn take_section(
     match section {
         Section::Plan(makespan) => at_plan(alloc, task, makespan, line_number, line),
         Section::Items(items) => at_item(alloc, task, items, line_number, line),
-        Section::Pairs(aim) => at_pairs(alloc, task, version, aim, line_number, line),
-        Section::PairRows(rows) => at_pair_row(alloc, task, version, rows, line_number, line),
-        Section::Dists(trees, pairs) => {
-            at_dists(alloc, task, version, trees, pairs, line_number, line)
-        }
-        Section::DistRows(rows) => at_dist_row(alloc, task, version, rows, line_number, line),
+        Section::Pairs(aim) => at_pairs(alloc, task, aim, line_number, line),
+        Section::PairRows(rows) => Ok(at_pair_row(task, version, rows, line_number, line)),
+        Section::Dists(trees, pairs) => { at_dists(alloc, task, trees, pairs, line_number, line) }
+        Section::DistRows(rows) => Ok(at_dist_row(task, version, rows, line_number, line)),
         Section::Tree(trees, tables) => at_tree(alloc, task, trees, tables, line_number, line),
         Section::Nodes(trees, tables, walk) => {
             at_node(alloc, task, trees, tables, walk, line_number, line)
@@ -132,7 +130,7 @@ pub(crate) fn take_section(
         } => at_open_node(alloc, task, nodes, tables, walk, line_number, line),
         Section::End => Ok(at_end(line_number, line)),
         Section::CountedEnd(counted) => Ok(at_counted_end(counted, line_number, line)),
-        Section::Done => Ok(at_nothing(line_number, line)),
+        Section::Done => Ok(at_nothing(line_number)),
     }
 }
 

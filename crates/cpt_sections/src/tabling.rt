@@ -89,20 +89,16 @@ fn after_pairs(task: &Task, rows: PairRows) -> Next
 pub(crate) fn at_pairs(
     alloc: Global,
     task: &Task,
-    version: Version,
     aim: Aim,
     line_number: u64,
     line: &CertLine,
 ) -> Result<Next, Memory>
     requires section { IsSection task.now line_number (Section.Pairs aim) }
-    requires line { IsLine line.now }
     requires number { line_number < 2 ^ 40 }
     requires late { 2 ≤ line_number }
     requires atoms { length task.now.atoms ≤ 2048 }
-    requires actions { length task.now.actions ≤ 4096 }
-    ensures { IfOk result (Moves task.now version (Section.Pairs aim) line_number line.now) }
+    ensures { IfOk result (λ next. (v : Version) → Moves task.now v (Section.Pairs aim) line_number line.now next) }
 {
-    let _ = version;
     match line {
         CertLine::Pairs => {
             let pairs = PairTable::filled(alloc, task.atoms().len() as u32, Span::Never)?;
@@ -177,34 +173,24 @@ fn take_pair_row(
 
 /// A row of the pair table comes.
 pub(crate) fn at_pair_row(
-    alloc: Global,
     task: &Task,
     version: Version,
     rows: PairRows,
     line_number: u64,
     line: &CertLine,
-) -> Result<Next, Memory>
+) -> Next
     requires section { IsSection task.now line_number (Section.PairRows rows) }
     requires line { IsLine line.now }
     requires number { line_number < 2 ^ 40 }
     requires late { 2 ≤ line_number }
-    requires atoms { length task.now.atoms ≤ 2048 }
-    requires actions { length task.now.actions ≤ 4096 }
-    ensures { IfOk result (Moves task.now version (Section.PairRows rows) line_number line.now) }
+    ensures { Moves task.now version (Section.PairRows rows) line_number line.now result }
 {
-    let _ = alloc;
     match line {
-        CertLine::PairRow(runs) => Ok(take_pair_row(
-            task,
-            version,
-            rows,
-            line_number,
-            runs.as_slice(),
-        )),
-        _ => Ok(Next::Fault {
+        CertLine::PairRow(runs) => take_pair_row(task, version, rows, line_number, runs.as_slice()),
+        _ => Next::Fault {
             line: line_number,
             why: Why::Grammar,
-        }),
+        },
     }
 }
 
@@ -263,20 +249,17 @@ fn empty_dists(alloc: Global, task: &Task) -> Result<DistTable, Memory>
 pub(crate) fn at_dists(
     alloc: Global,
     task: &Task,
-    version: Version,
     trees: Trees,
     pairs: PairTable,
     line_number: u64,
     line: &CertLine,
 ) -> Result<Next, Memory>
     requires section { IsSection task.now line_number (Section.Dists trees pairs) }
-    requires line { IsLine line.now }
     requires number { line_number < 2 ^ 40 }
     requires atoms { length task.now.atoms ≤ 2048 }
     requires actions { length task.now.actions ≤ 4096 }
-    ensures { IfOk result (Moves task.now version (Section.Dists trees pairs) line_number line.now) }
+    ensures { IfOk result (λ next. (v : Version) → Moves task.now v (Section.Dists trees pairs) line_number line.now next) }
 {
-    let _ = version;
     match line {
         CertLine::Dists => {
             let dists = empty_dists(alloc, task)?;
@@ -354,32 +337,22 @@ fn take_dist_row(
 
 /// A row of the distance table comes.
 pub(crate) fn at_dist_row(
-    alloc: Global,
     task: &Task,
     version: Version,
     rows: DistRows,
     line_number: u64,
     line: &CertLine,
-) -> Result<Next, Memory>
+) -> Next
     requires section { IsSection task.now line_number (Section.DistRows rows) }
     requires line { IsLine line.now }
     requires number { line_number < 2 ^ 40 }
-    requires atoms { length task.now.atoms ≤ 2048 }
-    requires actions { length task.now.actions ≤ 4096 }
-    ensures { IfOk result (Moves task.now version (Section.DistRows rows) line_number line.now) }
+    ensures { Moves task.now version (Section.DistRows rows) line_number line.now result }
 {
-    let _ = alloc;
     match line {
-        CertLine::DistRow(runs) => Ok(take_dist_row(
-            task,
-            version,
-            rows,
-            line_number,
-            runs.as_slice(),
-        )),
-        _ => Ok(Next::Fault {
+        CertLine::DistRow(runs) => take_dist_row(task, version, rows, line_number, runs.as_slice()),
+        _ => Next::Fault {
             line: line_number,
             why: Why::Grammar,
-        }),
+        },
     }
 }

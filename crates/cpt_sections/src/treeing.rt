@@ -4,6 +4,7 @@ ghost use Rattle.std.specs.Prelude.{◌≡◌, ℕ, ◌+◌, ◌<◌, ◌≤◌,
 ghost use Rattle.cpt_task.specs.Shape.{TaskShape};
 ghost use Rattle.cpt_sheet.specs.Gaps.{FitsTask};
 ghost use Rattle.cpt_calculus.specs.Root.{root_of};
+ghost use Rattle.cpt_cert.specs.declared.forms.CertLine.{CertLine};
 ghost use Rattle.cpt_cert.specs.declared.forms.Version.{Version};
 ghost use Rattle.cpt_verdict.specs.Trees.Part.{node};
 ghost use Rattle.cpt_walk.specs.Walks.{parts_left, IsUnread};
@@ -244,10 +245,9 @@ pub(crate) fn at_counted_end(counted: bool, line_number: u64, line: &CertLine) -
 }
 
 /// A line behind the last line.
-pub(crate) fn at_nothing(line_number: u64, line: &CertLine) -> Next
-    ensures { (t : TaskShape) (v : Version) → Moves t v Section.Done line_number line.now result }
+pub(crate) fn at_nothing(line_number: u64) -> Next
+    ensures { (t : TaskShape) (v : Version) (line : CertLine) → Moves t v Section.Done line_number line result }
 {
-    let _ = line;
     Next::Fault {
         line: line_number,
         why: Why::Grammar,

@@ -16,4 +16,14 @@ returns-in-CountedEnd c =
 pub returns-in-Done : goal.returns-in-Done
 returns-in-Done c =
     let P : Section → Type 0 = λ s. Moves c.args.task.now c.args.version s c.args.line_number c.args.line.now c.at_nothing.result in
-    subst P (sym c.in-Done.is) (c.at_nothing.ensures c.args.task.now c.args.version)
+    subst P (sym c.in-Done.is) (c.at_nothing.ensures c.args.task.now c.args.version c.args.line.now)
+
+pub returns-in-PairRows : goal.returns-in-PairRows
+returns-in-PairRows c =
+    let P : Section → Type 0 = λ s. Moves c.args.task.now c.args.version s c.args.line_number c.args.line.now c.at_pair_row.result in
+    subst P (sym c.in-PairRows.is) c.at_pair_row.ensures
+
+pub returns-in-DistRows : goal.returns-in-DistRows
+returns-in-DistRows c =
+    let P : Section → Type 0 = λ s. Moves c.args.task.now c.args.version s c.args.line_number c.args.line.now c.at_dist_row.result in
+    subst P (sym c.in-DistRows.is) c.at_dist_row.ensures

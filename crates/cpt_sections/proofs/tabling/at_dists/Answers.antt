@@ -8,9 +8,8 @@ use Rattle.cpt_sections.proofs.RowMoves.{begin_dists, strange_dists, move_by}
 use Rattle.cpt_sections.proofs.tabling.at_dists.Goals as goal
 
 pub returns-in_ok-dists-in-Dists : goal.returns-in_ok-dists-in-Dists
-returns-in_ok-dists-in-Dists c =
+returns-in_ok-dists-in-Dists c = λ v.
     let t = c.args.task.now in
-    let v = c.args.version in
     let n = c.args.line_number in
     let r : DistRows = record { trees = c.args.trees; head = n; next = 0; pairs = c.args.pairs; dists = c.in_ok-dists-in-Dists.dists } in
     subst (λ line. Moves t v (sections.Dists c.args.trees c.args.pairs) n line c.after_dists.result) (sym c.in-Dists.is)
@@ -18,4 +17,4 @@ returns-in_ok-dists-in-Dists c =
     (subst (λ k. Proceeds t v (Left t v (sections.DistRows r)) k c.after_dists.result) (omega arith) (c.after_dists.ensures v)))
 
 pub returns-in_default : goal.returns-in_default
-returns-in_default c = (omega arith, λ ls. strange_dists c.args.task.now c.args.version c.args.trees c.args.pairs c.args.line_number c.args.line.now c.in_default.not-Dists ls)
+returns-in_default c = λ v. (omega arith, λ ls. strange_dists c.args.task.now v c.args.trees c.args.pairs c.args.line_number c.args.line.now c.in_default.not-Dists ls)
