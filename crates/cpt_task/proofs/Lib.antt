@@ -1,8 +1,12 @@
 pub mod BuildingLemmas
 pub mod Changing
+pub mod Counting
 pub mod Exact
-pub mod Lasting
+pub mod Holding
+pub mod Latest
+pub mod Meeting
 pub mod OneVerdict
 pub mod OptimalityLemmas
 pub mod Order
+pub mod Ranks
 pub mod Tests

@@ -4,5 +4,6 @@ pub mod Interference
 pub mod Judgeable
 pub mod Judging
 pub mod Optimal
+pub mod Register
 pub mod Shape
 pub mod Timeline

@@ -6,6 +6,7 @@ mod laws;
 mod list;
 mod memory;
 mod plan;
+mod register;
 mod span;
 mod steps;
 mod task;

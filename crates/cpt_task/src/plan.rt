@@ -1,15 +1,17 @@
 //! Plans, and whether they are valid.
 
-ghost use Rattle.std.specs.Prelude.{◌≡◌, ◌↔◌, ◌<◌, ◌≤◌, ◌^◌, ◌+◌, ℕ, true, IsTrue, MatchBool, IfOk, MatchOption, MatchResult, All, Contains, length};
+ghost use Rattle.std.specs.Prelude.{◌≡◌, ◌↔◌, ◌<◌, ◌≤◌, ◌^◌, ◌+◌, ℕ, false, IsTrue, MatchBool, IfOk, MatchOption, MatchResult, All, Contains, length};
 ghost use Rattle.std.specs.List.Sorted.{IsStrictlyIncreasing};
 ghost use Rattle.cpt_task.specs.Interference.{Shares, Disturbs, Interferes};
-ghost use Rattle.cpt_task.specs.Judging.{NoClashUpTo, IsFirstClashOf, IsFirstClash, IsFirstNeed, IsFirstNeedOf, IsFirstUnmet, IsFirstMissing, IsFirstMissingOf, Judges};
+ghost use Rattle.cpt_task.specs.Judging.{NoClashUpTo, IsFirstClashOf, IsFirstClash, IsFirstNeed, IsFirstUnmet, IsFirstMissingOf, Judges};
+ghost use Rattle.cpt_task.specs.Register.{IsTimetable};
 ghost use Rattle.cpt_task.specs.Judgeable.{IsJudgeable, IsJudgeableAt};
-ghost use Rattle.cpt_task.specs.Timeline.{Overlaps, ClashBetween, Clashes, IsApart, HoldsFrom, HoldsThen, IsMet, IsValid, makespan, holds_at};
+ghost use Rattle.cpt_task.specs.Timeline.{Overlaps, ClashBetween, Clashes, IsApart, HoldsThen, IsMet, IsValid, makespan, occurrence_at};
 
 use crate::memory::Memory;
+use crate::register::{Role, Timetable, holds_then, some_has_company, timetable_of};
 use crate::task::{Action, Task};
-use crate::timeline::{action_at, end_at, first_gap, holds, makespan_of};
+use crate::timeline::{action_at, end_at, makespan_of};
 use std::alloc::Global;
 
 /// An occurrence in a plan: the number of an action of the task, and the moment at which it starts.
@@ -89,98 +91,135 @@ fn first_clash_of(task: &Task, plan: &[Occ], i: usize) -> Option<usize>
     None
 }
 
-fn first_clash(task: &Task, plan: &[Occ]) -> Option<(usize, usize)>
-    requires { IsJudgeable task.now plan.now }
+/// Whether the occurrence at the place may clash with another. Where it does not, the answer is no.
+fn may_clash(task: &Task, plan: &[Occ], times: &Timetable, i: usize) -> bool
+    requires plan { IsJudgeable task.now plan.now }
+    requires within { i < length plan.now }
+    requires times { IsTimetable task.now plan.now times.now }
+    ensures { result ≡ false → NoClashUpTo task.now plan.now i (length plan.now) }
+{
+    let action = action_at(task, &plan[i]);
+    let dele = action.dele.as_slice();
+    if some_has_company(task, plan, &times.pre, Role::Pre, i, dele) {
+        return true;
+    }
+    if some_has_company(task, plan, &times.add, Role::Add, i, dele) {
+        return true;
+    }
+    if some_has_company(
+        task,
+        plan,
+        &times.dele,
+        Role::Dele,
+        i,
+        action.pre.as_slice(),
+    ) {
+        return true;
+    }
+    some_has_company(
+        task,
+        plan,
+        &times.dele,
+        Role::Dele,
+        i,
+        action.add.as_slice(),
+    )
+}
+
+fn first_clash_at(task: &Task, plan: &[Occ], times: &Timetable, i: usize) -> Option<usize>
+    requires plan { IsJudgeable task.now plan.now }
+    requires within { i < length plan.now }
+    requires times { IsTimetable task.now plan.now times.now }
+    ensures { MatchOption result (NoClashUpTo task.now plan.now i (length plan.now)) (IsFirstClashOf task.now plan.now i) }
+{
+    if may_clash(task, plan, times, i) {
+        first_clash_of(task, plan, i)
+    } else {
+        None
+    }
+}
+
+fn first_clash(task: &Task, plan: &[Occ], times: &Timetable) -> Option<(usize, usize)>
+    requires plan { IsJudgeable task.now plan.now }
+    requires times { IsTimetable task.now plan.now times.now }
     ensures { MatchOption result (IsApart task.now plan.now) (λ places. IsFirstClash task.now plan.now places.0 places.1) }
 {
     for i in 0..plan.len() {
-        if let Some(j) = first_clash_of(task, plan, i) {
+        if let Some(j) = first_clash_at(task, plan, times, i) {
             return Some((i, j));
         }
     }
     None
 }
 
-fn first_need(task: &Task, plan: &[Occ], o: &Occ) -> Option<(u32, u64)>
+fn first_lack(task: &Task, plan: &[Occ], times: &Timetable, atoms: &[u32], time: u64) -> Option<u32>
     requires plan { IsJudgeable task.now plan.now }
-    requires occurrence { IsJudgeableAt task.now o.now }
-    ensures { MatchOption result (IsMet task.now plan.now o.now) (λ need. IsFirstNeed task.now plan.now o.now need.0 need.1) }
+    requires times { IsTimetable task.now plan.now times.now }
+    requires short { time < 2 ^ 63 }
+    requires increasing { IsStrictlyIncreasing atoms.now }
+    ensures { MatchOption result (All (HoldsThen task.now plan.now time) atoms.now) (IsFirstMissingOf task.now plan.now atoms.now time) }
 {
-    first_need_of(
-        task,
-        plan,
-        action_at(task, o).pre.as_slice(),
-        o.start,
-        end_at(task, o),
-    )
-}
-
-fn first_need_of(task: &Task, plan: &[Occ], pre: &[u32], from: u64, to: u64) -> Option<(u32, u64)>
-    requires plan { IsJudgeable task.now plan.now }
-    requires ordered { from < to }
-    requires increasing { IsStrictlyIncreasing pre.now }
-    ensures { MatchOption result (All (HoldsFrom task.now plan.now from to) pre.now) (λ need. IsFirstNeedOf task.now plan.now pre.now from to need.0 need.1) }
-{
-    for p in pre {
-        if let Some(time) = first_gap(task, plan, from, to, *p) {
-            return Some((*p, time));
-        }
-    }
-    None
-}
-
-fn first_unmet(task: &Task, plan: &[Occ]) -> Option<(usize, u32, u64)>
-    requires { IsJudgeable task.now plan.now }
-    ensures { MatchOption result (All (IsMet task.now plan.now) plan.now) (λ need. IsFirstUnmet task.now plan.now need.0 need.1 need.2) }
-{
-    for (i, o) in plan.iter().enumerate() {
-        if let Some((p, time)) = first_need(task, plan, o) {
-            return Some((i, p, time));
-        }
-    }
-    None
-}
-
-fn first_missing(task: &Task, plan: &[Occ], time: u64) -> Option<u32>
-    requires { IsJudgeable task.now plan.now }
-    ensures { MatchOption result (All (HoldsThen task.now plan.now time) task.now.goal) (IsFirstMissing task.now plan.now time) }
-{
-    first_missing_of(task, plan, task.goal(), time)
-}
-
-fn first_missing_of(task: &Task, plan: &[Occ], goal: &[u32], time: u64) -> Option<u32>
-    requires plan { IsJudgeable task.now plan.now }
-    requires increasing { IsStrictlyIncreasing goal.now }
-    ensures { MatchOption result (All (HoldsThen task.now plan.now time) goal.now) (IsFirstMissingOf task.now plan.now goal.now time) }
-{
-    for p in goal {
-        if !holds(task, plan, time, *p) {
+    for p in atoms {
+        if !holds_then(task, plan, times, time, *p) {
             return Some(*p);
         }
     }
     None
 }
 
-fn verdict_of(task: &Task, plan: &[Occ]) -> Verdict
+/// Where no occurrences clash, a need that is met at the start is met to the end.
+fn first_need(task: &Task, plan: &[Occ], times: &Timetable, i: usize) -> Option<u32>
+    requires plan { IsJudgeable task.now plan.now }
+    requires within { i < length plan.now }
+    requires times { IsTimetable task.now plan.now times.now }
+    requires apart { IsApart task.now plan.now }
+    ensures { MatchOption result (IsMet task.now plan.now (occurrence_at plan.now i)) (λ p. IsFirstNeed task.now plan.now (occurrence_at plan.now i) p (occurrence_at plan.now i).start) }
+{
+    let o = &plan[i];
+    first_lack(
+        task,
+        plan,
+        times,
+        action_at(task, o).pre.as_slice(),
+        o.start,
+    )
+}
+
+fn first_unmet(task: &Task, plan: &[Occ], times: &Timetable) -> Option<(usize, u32, u64)>
+    requires plan { IsJudgeable task.now plan.now }
+    requires times { IsTimetable task.now plan.now times.now }
+    requires apart { IsApart task.now plan.now }
+    ensures { MatchOption result (All (IsMet task.now plan.now) plan.now) (λ need. IsFirstUnmet task.now plan.now need.0 need.1 need.2) }
+{
+    for (i, o) in plan.iter().enumerate() {
+        if let Some(p) = first_need(task, plan, times, i) {
+            return Some((i, p, o.start));
+        }
+    }
+    None
+}
+
+fn verdict_of(task: &Task, plan: &[Occ], times: &Timetable) -> Verdict
     requires plan { IsJudgeable task.now plan.now }
     requires short { length plan.now < 2 ^ 32 }
+    requires times { IsTimetable task.now plan.now times.now }
     ensures { Judges task.now plan.now result }
 {
-    if let Some((i, j)) = first_clash(task, plan) {
+    if let Some((i, j)) = first_clash(task, plan, times) {
         return Verdict::Overlap(i as u32, j as u32);
     }
-    if let Some((i, p, time)) = first_unmet(task, plan) {
+    if let Some((i, p, time)) = first_unmet(task, plan, times) {
         return Verdict::Unmet(i as u32, p, time);
     }
     let makespan = makespan_of(task, plan);
-    if let Some(p) = first_missing(task, plan, makespan) {
+    if let Some(p) = first_lack(task, plan, times, task.goal(), makespan) {
         return Verdict::GoalMissing(p);
     }
     Verdict::Valid(makespan)
 }
 
 /// Whether the plan is valid, and else the first cause against it. It looks only at the moments at which an
-/// occurrence starts or ends.
+/// occurrence starts or ends, and takes a time that grows little more than the atoms that the plan touches.
 pub fn judge(alloc: Global, task: &Task, plan: &[Occ]) -> Result<Verdict, Memory>
     requires plan { IsJudgeable task.now plan.now }
     requires short { length plan.now < 2 ^ 32 }
@@ -189,6 +228,6 @@ pub fn judge(alloc: Global, task: &Task, plan: &[Occ]) -> Result<Verdict, Memory
     // Another answer is the first cause.
     ensures cause { IfOk result (Judges task.now plan.now) }
 {
-    let _ = alloc;
-    Ok(verdict_of(task, plan))
+    let times = timetable_of(alloc, task, plan)?;
+    Ok(verdict_of(task, plan, &times))
 }

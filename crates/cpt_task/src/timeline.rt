@@ -2,7 +2,6 @@
 
 ghost use Rattle.std.specs.Prelude.{◌≡◌, ◌↔◌, ◌<◌, ◌≤◌, IsTrue, MatchOption, All, Contains, length, max, if◌then◌else◌, nat_le, ◌&&◌};
 ghost use Rattle.cpt_task.specs.Changes.{touches, last_touch};
-ghost use Rattle.cpt_task.specs.Judging.{IsFirstGap, IsNearer};
 ghost use Rattle.cpt_task.specs.Shape.{IsDuration};
 ghost use Rattle.cpt_task.specs.Judgeable.{IsJudgeable, IsJudgeableAt};
 ghost use Rattle.cpt_task.specs.Timeline.{action_of, end_of, makespan, is_in, adds_at, holds_at, HoldsFrom};
@@ -42,7 +41,8 @@ pub fn contains(ids: &Ids, p: u32) -> bool
 
 pub fn makespan_of(task: &Task, plan: &[Occ]) -> u64
     requires { IsJudgeable task.now plan.now }
-    ensures { result ≡ makespan task.now plan.now }
+    ensures makespan { result ≡ makespan task.now plan.now }
+    ensures small { result ≤ 1000000100000 }
 {
     let mut most = 0u64;
     for o in plan {
@@ -98,34 +98,4 @@ pub fn holds(task: &Task, plan: &[Occ], time: u64, p: u32) -> bool
     } else {
         is_added_at(task, plan, last, p)
     }
-}
-
-fn nearer_gap(task: &Task, plan: &[Occ], o: &Occ, from: u64, gap: u64, p: u32) -> u64
-    requires plan { IsJudgeable task.now plan.now }
-    requires occurrence { IsJudgeableAt task.now o.now }
-    requires ordered { from < gap }
-    ensures { IsNearer task.now plan.now from p (end_of task.now o.now) gap result }
-{
-    let end = end_at(task, o);
-    if from < end && end < gap && !holds(task, plan, end, p) {
-        end
-    } else {
-        gap
-    }
-}
-
-/// The first moment from the one on and before the other at which the atom does not hold.
-pub fn first_gap(task: &Task, plan: &[Occ], from: u64, to: u64, p: u32) -> Option<u64>
-    requires plan { IsJudgeable task.now plan.now }
-    requires ordered { from < to }
-    ensures { MatchOption result (HoldsFrom task.now plan.now from to p) (IsFirstGap task.now plan.now from to p) }
-{
-    if !holds(task, plan, from, p) {
-        return Some(from);
-    }
-    let mut gap = to;
-    for q in plan {
-        gap = nearer_gap(task, plan, q, from, gap, p);
-    }
-    if gap < to { Some(gap) } else { None }
 }
