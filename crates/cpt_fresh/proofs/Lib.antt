@@ -1,0 +1,4 @@
+pub mod ExtendLemmas
+pub mod FlawLemmas
+pub mod FreshLemmas
+pub mod LastLemmas
