@@ -1,0 +1,11 @@
+pub mod NodeLemmas
+pub mod LeafLemmas
+pub mod OrderLemmas
+pub mod PlanLemmas
+pub mod BroughtLemmas
+pub mod TokenLemmas
+pub mod EnoughLemmas
+pub mod ChainLemmas
+pub mod ReachLemmas
+pub mod GoalLemmas
+pub mod OutcomeLemmas

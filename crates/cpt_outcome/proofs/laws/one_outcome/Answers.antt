@@ -1,0 +1,5 @@
+use Rattle.cpt_outcome.proofs.OutcomeLemmas.{one-outcome}
+use Rattle.cpt_outcome.proofs.laws.one_outcome.Goals as goal
+
+pub returns : goal.returns
+returns c = one-outcome

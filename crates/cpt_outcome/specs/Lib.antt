@@ -1,0 +1,6 @@
+pub mod Nodes
+pub mod Refuting
+pub mod Leaves
+pub mod Outcomes
+pub mod Enough
+pub mod Goals

@@ -1,0 +1,3 @@
+pub mod FrontierLemmas
+pub mod TraversalLemmas
+pub mod BoundLemmas

@@ -1,0 +1,4 @@
+pub mod Trees
+pub mod Texts
+pub mod Deepening
+pub mod Counts
