@@ -1,0 +1,4 @@
+pub mod Backing
+pub mod Chains
+pub mod Counts
+pub mod Rooms

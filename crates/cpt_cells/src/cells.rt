@@ -1,0 +1,262 @@
+//! A sheet in the cells of a trail.
+
+ghost use Rattle.std.specs.Prelude.{◌≡◌, ◌<◌, ◌≤◌, ◌+◌, ◌++◌, ◌∷◌, [], ◌^◌, false, true, length, OnOk};
+ghost use Rattle.cpt_sheet.specs.Formed.{IsPlaced};
+ghost use Rattle.cpt_sheet.specs.Edits.{changed, with_posted};
+ghost use Rattle.cpt_sheet.specs.View.{span_of, kind_of, before, has, cands};
+ghost use Rattle.cpt_cells.specs.Shapes.{SheetMark, KeepsMarks, IsBackAt, IsCellOf, written_of};
+ghost use Rattle.cpt_layout.specs.Sheets.{IsSmall};
+
+use crate::spans::{number_of_span, span_of_number};
+use cpt_layout::{Layout, place_of};
+use cpt_sheet::{Cand, Change, Interval, Kind};
+use cpt_task::{Memory, Span, Steps};
+use cpt_trail::Trail;
+use std::marker::Model;
+use std::sync::ledger::Ledger;
+
+/// A sheet in the cells of a trail. The layout says which cell holds what, and `end` is how many cells there are.
+#[derive(Drop)]
+pub struct Cells {
+    trail: Trail,
+    layout: Layout,
+    end: usize,
+}
+
+impl Model for Cells {
+    ghost use Rattle.cpt_cells.specs.Shapes.{CellsShape};
+
+    ghost Value = { CellsShape };
+
+    ghost use Rattle.cpt_cells.specs.Held.{shape_of, IsHeld};
+
+    ghost view = { shape_of };
+
+    ghost invariant = { IsHeld };
+}
+
+impl Cells {
+    ghost use Rattle.cpt_layout.specs.Places.{Place, IsThere, order};
+    ghost use Rattle.cpt_layout.specs.Numbers.{cell_of};
+    ghost use Rattle.cpt_layout.specs.Puts.{Puts, lo_of, hi_of, IsSpanOf, IsCandCell, CanMake};
+
+    /// The interval of a token.
+    pub fn span(&self, x: u32) -> Interval
+        requires { x < length self.now.sheet.tokens }
+        ensures { result ≡ span_of self.now.sheet (Cand.Tok x) }
+    {
+        let cell = self.layout.tok_cell(x);
+        Interval {
+            lo: span_of_number(self.trail.get(cell)),
+            hi: self.trail.get(cell + 1),
+        }
+    }
+
+    /// The interval of the outside occurrences of an action.
+    pub fn out(&self, a: u32) -> Interval
+        requires { a < length self.now.sheet.outs }
+        ensures { result ≡ span_of self.now.sheet (Cand.Out a) }
+    {
+        let cell = self.layout.out_cell(a);
+        Interval {
+            lo: span_of_number(self.trail.get(cell)),
+            hi: self.trail.get(cell + 1),
+        }
+    }
+
+    /// The greatest makespan.
+    pub fn bound(&self) -> u64
+        ensures { result ≡ self.now.sheet.bound }
+    {
+        self.layout.bound()
+    }
+
+    /// How many tokens there are.
+    pub fn tokens(&self) -> usize
+        ensures { result ≡ length self.now.sheet.tokens }
+    {
+        self.layout.tokens()
+    }
+
+    /// What a token stands for.
+    pub fn kind(&self, x: u32) -> Kind
+        requires { x < length self.now.sheet.tokens }
+        ensures { result ≡ kind_of self.now.sheet (Cand.Tok x) }
+    {
+        self.layout.kind(x)
+    }
+
+    /// Room for one mark: for an entry of each cell, and for the mark itself.
+    pub fn reserve_mark(&mut self) -> Result<(), Memory>
+        ensures sheet { self.new.sheet ≡ self.old.sheet }
+        ensures marks { self.new.marks ≡ self.old.marks }
+        ensures room { OnOk result (0 < self.new.mark_room) }
+        ensures entries { OnOk result (self.new.cells ≤ self.new.entry_room) }
+    {
+        self.trail.reserve(0, self.end, 1)
+    }
+
+    /// A new mark. The answer is how many stood before.
+    pub fn mark(&mut self) -> usize
+        requires room { 0 < self.old.mark_room }
+        requires entries { self.old.cells ≤ self.old.entry_room }
+        ensures number { result ≡ length self.old.marks }
+        ensures sheet { self.new.sheet ≡ self.old.sheet }
+        ensures marks { self.new.marks ≡ self.old.marks ++ record { sheet = self.old.sheet; written = 0 } ∷ [] }
+    {
+        self.trail.mark()
+    }
+
+    /// Writes one number.
+    fn put<L: Ledger>(&mut self, cell: usize, value: u64, steps: &mut Steps<L>)
+        requires { IsCellOf self.old.frame cell }
+        ensures frame { self.new.frame ≡ self.old.frame }
+        ensures sheet { (q : Place) → IsThere self.old.frame q → cell ≡ cell_of self.old.frame q → Puts self.old.frame self.old.sheet self.new.sheet q value }
+        ensures marks { KeepsMarks self.old.marks self.new.marks }
+        ensures ticks { steps.new ≡ steps.old + 1 }
+    {
+        self.trail.write(cell, value, steps);
+    }
+
+    /// Where the interval of a token or an outside action stands.
+    fn span_cell(&self, at: Cand) -> usize
+        requires { IsSpanOf self.now.sheet at }
+        ensures lo { result ≡ cell_of self.now.frame (lo_of at) }
+        ensures hi { result + 1 ≡ cell_of self.now.frame (hi_of at) }
+        ensures there { IsThere self.now.frame (hi_of at) }
+        ensures lo_there { IsThere self.now.frame (lo_of at) }
+        ensures fits { result + 1 < 2 ^ 64 }
+    {
+        match at {
+            Cand::Tok(x) => self.layout.tok_cell(x),
+            Cand::Out(a) => self.layout.out_cell(a),
+        }
+    }
+
+    /// Raises a lo.
+    fn raise<L: Ledger>(&mut self, at: Cand, to: Span, steps: &mut Steps<L>)
+        requires there { IsSpanOf self.old.sheet at }
+        requires small { IsSmall to }
+        ensures frame { self.new.frame ≡ self.old.frame }
+        ensures sheet { self.new.sheet ≡ changed self.old.sheet (Change.Raise at to) }
+        ensures marks { KeepsMarks self.old.marks self.new.marks }
+        ensures ticks { steps.new ≡ steps.old + 1 }
+    {
+        let cell = self.span_cell(at);
+        self.put(cell, number_of_span(to), steps);
+    }
+
+    /// Lowers a hi.
+    fn lower<L: Ledger>(&mut self, at: Cand, to: u64, steps: &mut Steps<L>)
+        requires { IsSpanOf self.old.sheet at }
+        ensures frame { self.new.frame ≡ self.old.frame }
+        ensures sheet { self.new.sheet ≡ changed self.old.sheet (Change.Lower at (Span.At to)) }
+        ensures marks { KeepsMarks self.old.marks self.new.marks }
+        ensures ticks { steps.new ≡ steps.old + 1 }
+    {
+        let cell = self.span_cell(at) + 1;
+        self.put(cell, to, steps);
+    }
+
+    /// Where it stands whether an order stands.
+    fn order_cell(&self, x: u32, y: u32) -> usize
+        requires { IsPlaced self.now.sheet x y }
+        ensures cell { result ≡ cell_of self.now.frame (order x y) }
+        ensures there { IsThere self.now.frame (order x y) }
+    {
+        self.layout.order_cell(x, y)
+    }
+
+    /// Posts an order.
+    fn post<L: Ledger>(&mut self, x: u32, y: u32, steps: &mut Steps<L>)
+        requires there { IsPlaced self.old.sheet x y }
+        requires fresh { before self.old.sheet x y ≡ false }
+        ensures frame { self.new.frame ≡ self.old.frame }
+        ensures sheet { self.new.sheet ≡ changed self.old.sheet (Change.Post x y) }
+        ensures marks { KeepsMarks self.old.marks self.new.marks }
+        ensures ticks { steps.new ≡ steps.old + 1 }
+    {
+        let cell = self.order_cell(x, y);
+        self.put(cell, 1, steps);
+    }
+
+    /// Whether the first token is before the second.
+    pub fn before(&self, x: u32, y: u32) -> bool
+        requires { IsPlaced self.now.sheet x y }
+        ensures { result ≡ before self.now.sheet x y }
+    {
+        let cell = self.layout.order_cell(x, y);
+        self.trail.get(cell) == 1
+    }
+
+    /// The sheet of the mark comes back: it and all newer marks are gone.
+    pub fn undo_to<L: Ledger>(&mut self, mark: usize, steps: &mut Steps<L>)
+        requires { mark < length self.old.marks }
+        ensures back { IsBackAt mark self.old self.new }
+        ensures ticks { steps.new + written_of self.new.marks ≡ steps.old + written_of self.old.marks }
+    {
+        self.trail.undo_to(mark, steps);
+        let count = self.layout.out_cells();
+        let number = self.trail.get(count);
+        let tokens = number as usize;
+        let end = self.layout.end_at(tokens, self.end);
+        self.layout.truncate(tokens);
+        self.end = end;
+    }
+
+    /// Where it stands whether a candidate is in a list.
+    fn cand_cell(&self, x: u32, p: u32, c: Cand) -> usize
+        requires token { x < length self.now.sheet.tokens }
+        requires listed { has c (cands self.now.sheet x p) ≡ true }
+        ensures there { IsCandCell self.now.frame x p c result }
+    {
+        let place = place_of(self.layout.needs(x), p);
+        match c {
+            Cand::Tok(y) => self.layout.token_cand_cell(x, place, y),
+            Cand::Out(a) => self.layout.out_cand_cell(x, place, a),
+        }
+    }
+
+    /// Takes a candidate from a list.
+    fn take<L: Ledger>(&mut self, x: u32, p: u32, c: Cand, steps: &mut Steps<L>)
+        requires token { x < length self.old.sheet.tokens }
+        requires listed { has c (cands self.old.sheet x p) ≡ true }
+        ensures frame { self.new.frame ≡ self.old.frame }
+        ensures sheet { self.new.sheet ≡ changed self.old.sheet (Change.Take x p c) }
+        ensures marks { KeepsMarks self.old.marks self.new.marks }
+        ensures ticks { steps.new ≡ steps.old + 1 }
+    {
+        let cell = self.cand_cell(x, p, c);
+        self.put(cell, 0, steps);
+    }
+
+    /// Makes a change.
+    pub fn make<L: Ledger>(&mut self, change: Change, steps: &mut Steps<L>)
+        requires { CanMake self.old.sheet change }
+        ensures sheet { self.new.sheet ≡ changed self.old.sheet change }
+        ensures marks { KeepsMarks self.old.marks self.new.marks }
+        ensures ticks { steps.new ≤ steps.old + 1 }
+    {
+        match change {
+            Change::Raise { at, to } => self.raise(at, to, steps),
+            Change::Lower { at, to } => match to {
+                Span::At(moment) => self.lower(at, moment, steps),
+                Span::Never => {}
+            },
+            Change::Take { tok, pre, cand } => self.take(tok, pre, cand, steps),
+            Change::Post { first, second } => self.post(first, second, steps),
+        }
+    }
+
+    /// The decision that the first token comes before the second.
+    pub fn decide_before<L: Ledger>(&mut self, x: u32, y: u32, steps: &mut Steps<L>)
+        requires { IsPlaced self.old.sheet x y }
+        ensures sheet { self.new.sheet ≡ with_posted self.old.sheet x y }
+        ensures marks { KeepsMarks self.old.marks self.new.marks }
+        ensures ticks { steps.new ≤ steps.old + 1 }
+    {
+        if !self.before(x, y) {
+            self.post(x, y, steps);
+        }
+    }
+}

@@ -1,0 +1,13 @@
+pub mod Cands
+pub mod Changes
+pub mod Drops
+pub mod Growing
+pub mod Laying
+pub mod Lists
+pub mod Numbering
+pub mod Posts
+pub mod Putting
+pub mod Reading
+pub mod Taking
+pub mod There
+pub mod Views
