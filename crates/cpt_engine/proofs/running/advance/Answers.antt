@@ -1,0 +1,23 @@
+use Rattle.std.proofs.Common.{◌∙◌}
+use Rattle.cpt_engine.proofs.RunLemmas.{can_narrow, led_step, formed_step, on_step}
+use Rattle.cpt_engine.proofs.running.advance.Goals as goal
+
+pub returns-then-dead-clause-led : goal.returns-then-dead-clause-led
+returns-then-dead-clause-led g c = led_step _ _ _ _ _ c.args.subject c.args.step _ _ c.requires.running.formed c.requires.proposal c.narrow.ensures.sheet c.in_ok-push.ensures.items
+
+pub wake-requires-clause-lent : goal.wake-requires-clause-lent
+wake-requires-clause-lent g c = record {
+  task = c.narrow.ensures.task ∙ c.requires.task;
+  fits = c.requires.running.fits;
+  formed = formed_step _ _ _ _ c.args.step c.requires.running.formed c.requires.proposal.legal c.narrow.ensures.sheet;
+}
+
+pub narrow-requires : goal.narrow-requires
+narrow-requires g c = can_narrow c.args.store.now _ _ c.args.step c.requires.task c.requires.running.fits c.requires.running.formed c.requires.proposal.legal
+
+pub returns-clause-advanced : goal.returns-clause-advanced
+returns-clause-advanced g c =
+    on_step _ _ _ _ _ c.args.step _ _ _ c.narrow.ensures.sheet c.requires.running c.requires.live c.requires.proposal c.if-dead.ensures c.wake.ensures
+
+pub returns-clause-led : goal.returns-clause-led
+returns-clause-led g c = led_step _ _ _ _ _ c.args.subject c.args.step _ _ c.requires.running.formed c.requires.proposal c.narrow.ensures.sheet c.in_ok-push.ensures.items
