@@ -1,10 +1,9 @@
-use Rattle.std.specs.Prelude.{◌≡◌, ℕ, ◌+◌, ◌<◌, ◌≤◌, length, List, [], ◌∷◌, ◌++◌, Contains, Option, Some, None}
+use Rattle.std.specs.Prelude.{◌≡◌, ℕ, ◌<◌, ◌≤◌, length, List, ◌++◌, Contains, Option, Some, None}
 use Rattle.cpt_task.specs.Shape.{TaskShape}
 use Rattle.cpt_tables.specs.declared.tables.Tables.{Tables}
 use Rattle.cpt_sheet.specs.declared.data.Sheet.{Sheet}
 use Rattle.cpt_sheet.specs.declared.data.Step.{Step}
 use Rattle.cpt_sheet.specs.declared.data.Decision.{Decision}
-use Rattle.cpt_sheet.specs.declared.data.Flaw.{Flaw}
 use Rattle.cpt_sheet.specs.Formed.{IsFormed}
 use Rattle.cpt_sheet.specs.Live.{IsLive, IsDead}
 use Rattle.cpt_calculus.specs.Closing.{IsClosed, IsFresh}
