@@ -1,0 +1,6 @@
+//! Who adds, deletes and needs each atom of a sheet, and who interferes with each action of its task.
+#![tactic(auto)]
+
+mod index;
+
+pub use index::{AtomLists, Index, index_of};

@@ -1,0 +1,5 @@
+pub mod CopyLemmas
+pub mod HeldLemmas
+pub mod KeptLemmas
+pub mod RelatedLemmas
+pub mod StoreLemmas

@@ -1,0 +1,4 @@
+pub mod Held
+pub mod Proposals
+pub mod Related
+pub mod Stores

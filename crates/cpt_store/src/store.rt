@@ -1,0 +1,335 @@
+//! A sheet that is moved forward by steps and decisions, and back to its marks.
+
+ghost use Rattle.std.specs.Prelude.{◌≡◌, ◌+◌, ◌<◌, ◌≤◌, ◌^◌, ◌++◌, ◌∷◌, [], ℕ, true, false, length, slice_get, Some, IfOk, OnOk, OnErr, MatchBool, MatchOption, IsTrue, ◌↔◌};
+ghost use Rattle.cpt_sheet.specs.Formed.{IsFormed};
+ghost use Rattle.cpt_sheet.specs.Gaps.{FitsTask};
+ghost use Rattle.cpt_sheet.specs.Live.{IsLive, IsDead};
+ghost use Rattle.cpt_sheet.specs.View.{before, cands, has, kind_of, span_of};
+ghost use Rattle.cpt_calculus.specs.Rules.{IsToken, narrowed};
+ghost use Rattle.cpt_calculus.specs.Decisions.{applied, Fits};
+ghost use Rattle.cpt_calculus.specs.Root.{root_of};
+ghost use Rattle.cpt_store.specs.Held.{IsHeldFor, sheet_of};
+ghost use Rattle.cpt_index.specs.Lists.{IsConsumer, IsDeleter, IsOffer, IsRival, Lists};
+ghost use Rattle.cpt_store.specs.Stores.{CanNarrow, IsBack, IsLent, IsReady, IsSpent, KeepsMarks};
+
+use crate::copies::copy_task;
+use crate::held::{Held, copied, hold, holds_order, revise};
+use cpt_calculus::{apply, root};
+use cpt_sheet::{
+    Cand, Decision, Interval, Kind, Sheet, Step, is_dead, is_listed, kind, list, span,
+};
+use cpt_tables::Tables;
+use cpt_task::{Memory, Steps, Task};
+use std::alloc::Global;
+use std::marker::Model;
+use std::sync::ledger::Ledger;
+
+/// A task, and tables that fit it.
+#[derive(Clone, Copy)]
+pub struct Ctx<'a> {
+    pub task: &'a Task,
+    pub tables: &'a Tables,
+}
+
+/// Where a step lands: a token, or the outside occurrences of an action.
+pub type Subject = Cand;
+
+/// A decision, and the sheet after it.
+#[derive(Drop)]
+struct Next {
+    decision: Decision,
+    held: Held,
+}
+
+/// A sheet of a task that goes back to its marks. It is moved by copies, which are made where room is reserved.
+#[derive(Drop)]
+pub struct Store {
+    task: Task,
+    held: Held,
+    spare: Option<Held>,
+    next: Option<Next>,
+    kept: Vec<Held>,
+}
+
+impl Model for Store {
+    ghost use Rattle.cpt_store.specs.Stores.{StoreShape};
+
+    ghost Value = { StoreShape };
+
+    ghost use Rattle.cpt_store.specs.Held.{shape_of, IsSound};
+
+    ghost view = { shape_of };
+
+    ghost invariant = { IsSound };
+}
+
+/// Copies of the sheet, with room for their orders: as it is, and after the decision.
+fn prepared(
+    alloc: Global,
+    task: &Task,
+    held: &Held,
+    decision: &Decision,
+) -> Result<(Held, Held), Memory>
+    requires held { IsHeldFor task.now held.now }
+    requires fits { Fits (sheet_of held.now) decision.now }
+    requires few { length (sheet_of held.now).tokens < 4200000000 }
+    ensures same { IfOk result (λ p. sheet_of p.0 ≡ sheet_of held.now) }
+    ensures after { IfOk result (λ p. sheet_of p.1 ≡ applied task.now (sheet_of held.now) decision.now) }
+    ensures held { IfOk result (λ p. IsHeldFor task.now p.0 × IsHeldFor task.now p.1) }
+{
+    let same = hold(alloc, task, copied(alloc, held)?)?;
+    let mut sheet = copied(alloc, held)?;
+    apply(task, &mut sheet, decision)?;
+    let after = hold(alloc, task, sheet)?;
+    Ok((same, after))
+}
+
+impl Store {
+    /// The root sheet of a bound, with room for its steps.
+    pub fn root(alloc: Global, ctx: &Ctx, bound: u64) -> Result<Store, Memory>
+        requires tables { FitsTask ctx.now.task.now ctx.now.tables.now }
+        requires bound { bound ≤ 1000000 }
+        ensures task { IfOk result (λ s. s.task ≡ ctx.now.task.now) }
+        ensures sheet { IfOk result (λ s. s.sheet ≡ root_of ctx.now.task.now ctx.now.tables.now bound) }
+        ensures formed { IfOk result (λ s. IsFormed ctx.now.task.now s.sheet) }
+        ensures marks { IfOk result (λ s. s.marks ≡ []) }
+        ensures spent { IfOk result IsSpent }
+    {
+        let _ = ctx.tables.dists.actions();
+        let sheet = root(alloc, ctx.task, ctx.tables, bound)?;
+        let task = copy_task(alloc, ctx.task)?;
+        let held = hold(alloc, &task, sheet)?;
+        Ok(Store {
+            task,
+            held,
+            spare: None,
+            next: None,
+            kept: Vec::new(alloc),
+        })
+    }
+
+    /// The greatest makespan.
+    pub fn bound(&self) -> u64
+        ensures { result ≡ self.now.sheet.bound }
+    {
+        self.held.base.bound
+    }
+
+    /// How many tokens there are.
+    pub fn tokens(&self) -> u32
+        ensures value { result ≡ length self.now.sheet.tokens }
+        ensures few { result ≤ 4200000000 }
+    {
+        self.held.base.tokens.as_slice().len() as u32
+    }
+
+    /// What a token stands for.
+    pub fn kind(&self, tok: u32) -> Kind
+        requires { tok < length self.now.sheet.tokens }
+        ensures { result ≡ kind_of self.now.sheet (Cand.Tok tok) }
+    {
+        kind(&self.held.base, Cand::Tok(tok))
+    }
+
+    /// What a token or an outside action stands for.
+    pub fn kind_at(&self, c: Cand) -> Kind
+        ensures { result ≡ kind_of self.now.sheet c }
+    {
+        kind(&self.held.base, c)
+    }
+
+    /// When a token may begin.
+    pub fn span(&self, tok: u32) -> Interval
+        requires { tok < length self.now.sheet.tokens }
+        ensures { result ≡ span_of self.now.sheet (Cand.Tok tok) }
+    {
+        span(&self.held.base, Cand::Tok(tok))
+    }
+
+    /// When the outside occurrences of an action may begin.
+    pub fn out(&self, act: u32) -> Interval
+        requires { act < length self.now.task.actions }
+        ensures { result ≡ span_of self.now.sheet (Cand.Out act) }
+    {
+        span(&self.held.base, Cand::Out(act))
+    }
+
+    /// When a token or the outside occurrences of an action may begin.
+    pub fn span_at(&self, c: Cand) -> Interval
+        ensures { result ≡ span_of self.now.sheet c }
+    {
+        span(&self.held.base, c)
+    }
+
+    /// Whether the first token ends before the second begins.
+    pub fn before(&self, first: u32, second: u32) -> bool
+        ensures { result ≡ before self.now.sheet first second }
+    {
+        holds_order(&self.held, first, second)
+    }
+
+    /// How many candidates are left of a token for an atom.
+    pub fn count(&self, tok: u32, pre: u32) -> u32
+        requires { tok < length self.now.sheet.tokens }
+        ensures { result ≡ length (cands self.now.sheet tok pre) }
+    {
+        list(&self.held.base, tok, pre).len() as u32
+    }
+
+    /// The candidate at a place of the list of a token for an atom.
+    pub fn cand(&self, tok: u32, pre: u32, place: u32) -> Cand
+        requires { place < length (cands self.now.sheet tok pre) }
+        ensures { slice_get (cands self.now.sheet tok pre) place ≡ Some result }
+    {
+        list(&self.held.base, tok, pre)[place as usize]
+    }
+
+    /// The first candidate of a token for an atom.
+    pub(crate) fn first(&self, tok: u32, pre: u32) -> Option<Cand>
+        ensures { result ≡ slice_get (cands self.now.sheet tok pre) 0 }
+    {
+        list(&self.held.base, tok, pre).first().copied()
+    }
+
+    /// Whether the candidate stands in the list of the token for the atom.
+    pub fn holds(&self, tok: u32, pre: u32, c: Cand) -> bool
+        ensures { result ≡ has c (cands self.now.sheet tok pre) }
+    {
+        is_listed(list(&self.held.base, tok, pre), c)
+    }
+
+    /// The one token of the list of the token for the atom, where it is one token.
+    pub fn supplier(&self, tok: u32, pre: u32) -> Option<u32>
+        ensures { MatchOption result ((y : ℕ) → IsToken (cands self.now.sheet tok pre) y → ⊥) (λ y. IsToken (cands self.now.sheet tok pre) y) }
+    {
+        match list(&self.held.base, tok, pre) {
+            [Cand::Tok(y)] => Some(*y),
+            _ => None,
+        }
+    }
+
+    /// Whether the sheet is dead.
+    pub fn dead(&self) -> bool
+        ensures { MatchBool result (IsDead self.now.sheet) (IsLive self.now.sheet) }
+    {
+        is_dead(&self.held.base)
+    }
+
+    /// The tokens and outside actions that add the atom.
+    pub fn offers(&self, p: u32) -> &[Cand]
+        ensures { Lists (IsOffer self.now.task self.now.sheet p) result.now }
+    {
+        self.held.index.offers(p)
+    }
+
+    /// The tokens that delete the atom.
+    pub fn deleters(&self, p: u32) -> &[u32]
+        ensures { Lists (IsDeleter self.now.task self.now.sheet p) result.now }
+    {
+        self.held.index.deleters(p)
+    }
+
+    /// The tokens that need the atom.
+    pub fn consumers(&self, p: u32) -> &[u32]
+        ensures { Lists (IsConsumer self.now.sheet p) result.now }
+    {
+        self.held.index.consumers(p)
+    }
+
+    /// The tokens that interfere with the action.
+    pub fn rivals(&self, act: u32) -> &[u32]
+        ensures { Lists (IsRival self.now.task self.now.sheet act) result.now }
+    {
+        self.held.index.rivals(act)
+    }
+
+    /// Makes a legal step. It takes no memory.
+    pub fn narrow<L: Ledger>(&mut self, step: &Step, steps: &mut Steps<L>)
+        requires { CanNarrow self.old step.now }
+        ensures task { self.new.task ≡ self.old.task }
+        ensures sheet { self.new.sheet ≡ narrowed self.old.sheet step.now }
+        ensures marks { KeepsMarks self.old.marks self.new.marks }
+        ensures spent { IsSpent self.new }
+    {
+        steps.tick();
+        self.spare = None;
+        self.next = None;
+        revise(&self.task, &mut self.held, step);
+    }
+
+    /// Room for a decision, for the steps after it and for one mark. The sheet and the marks stay.
+    pub fn reserve(&mut self, ctx: &Ctx, decision: &Decision) -> Result<(), Memory>
+        requires lent { IsLent ctx.now.task.now ctx.now.tables.now self.old }
+        requires fits { Fits self.old.sheet decision.now }
+        requires few { length self.old.sheet.tokens < 4200000000 }
+        ensures task { self.new.task ≡ self.old.task }
+        ensures sheet { self.new.sheet ≡ self.old.sheet }
+        ensures marks { self.new.marks ≡ self.old.marks }
+        ensures ready { OnOk result (IsReady ctx.now.task.now self.new decision.now) }
+        ensures markable { OnOk result (self.new.markable ≡ true) }
+        ensures err { OnErr result (IsSpent self.new) }
+    {
+        let _ = ctx;
+        self.spare = None;
+        self.next = None;
+        self.kept.reserve(1)?;
+        let alloc = *self.kept.allocator();
+        let (same, after) = prepared(alloc, &self.task, &self.held, decision)?;
+        self.spare = Some(same);
+        self.next = Some(Next {
+            decision: *decision,
+            held: after,
+        });
+        Ok(())
+    }
+
+    /// Makes a decision for which room stands. It takes no memory.
+    pub fn apply<L: Ledger>(&mut self, ctx: &Ctx, decision: &Decision, steps: &mut Steps<L>)
+        requires lent { IsLent ctx.now.task.now ctx.now.tables.now self.old }
+        requires fits { Fits self.old.sheet decision.now }
+        requires ready { IsReady ctx.now.task.now self.old decision.now }
+        requires few { length self.old.sheet.tokens < 4200000000 }
+        ensures task { self.new.task ≡ self.old.task }
+        ensures sheet { self.new.sheet ≡ applied ctx.now.task.now self.old.sheet decision.now }
+        ensures marks { KeepsMarks self.old.marks self.new.marks }
+        ensures spent { IsSpent self.new }
+    {
+        steps.tick();
+        self.spare = None;
+        if let Some(Next { held, .. }) = self.next.take() {
+            self.held = held;
+        }
+    }
+
+    /// A new mark. The answer is how many stood before. It takes no memory.
+    pub fn mark(&mut self) -> usize
+        requires { self.old.markable ≡ true }
+        ensures number { result ≡ length self.old.marks }
+        ensures task { self.new.task ≡ self.old.task }
+        ensures sheet { self.new.sheet ≡ self.old.sheet }
+        ensures ready { self.new.ready ≡ self.old.ready }
+        ensures markable { self.new.markable ≡ false }
+        ensures marks { self.new.marks ≡ self.old.marks ++ record { sheet = self.old.sheet; written = 0 } ∷ [] }
+    {
+        let stands = self.kept.len();
+        if let Some(held) = self.spare.take() {
+            self.kept.push_reserved(held);
+        }
+        stands
+    }
+
+    /// Goes back to the newest mark, which is gone then. It takes no memory.
+    pub fn undo_to<L: Ledger>(&mut self, mark: usize, steps: &mut Steps<L>)
+        requires { mark + 1 ≡ length self.old.marks }
+        ensures back { IsBack self.old self.new steps.old steps.new }
+        ensures spent { IsSpent self.new }
+    {
+        let _ = mark;
+        let _ = steps;
+        self.spare = None;
+        self.next = None;
+        if let Some(held) = self.kept.pop() {
+            self.held = held;
+        }
+    }
+}
