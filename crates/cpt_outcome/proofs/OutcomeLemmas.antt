@@ -19,7 +19,7 @@ use Rattle.cpt_soundness.proofs.PlanLemmas.{goal_bounds}
 use Rattle.cpt_tree.specs.Trees.{Node, SearchTree}
 use Rattle.cpt_tree.specs.Deepening.{Conclusion, solved, exhausted, spent, AreExhausted, Concludes}
 use Rattle.cpt_tree.proofs.ConclusionLemmas.{one-conclusion}
-use Rattle.cpt_tree.proofs.BudgetLemmas.{spent-larger}
+use Rattle.cpt_tree.proofs.BudgetLemmas.{spent-larger, larger-below}
 use Rattle.cpt_outcome.specs.Nodes.{SearchProblem, IsFreshAt, IsClosedSheet, search_tree}
 use Rattle.cpt_outcome.specs.Leaves.{IsSolved, IsPlanOfSheet}
 use Rattle.cpt_outcome.specs.Outcomes.{goal_span, never, optimal, none_up_to, budget_spent, IsPlanOfNode, HasOutcome, OneOutcome, IsSearchable, OutcomesHold, SpentIsLarger, FindsPlans, FindsNone}
@@ -27,6 +27,8 @@ use Rattle.cpt_outcome.proofs.NodeLemmas.{fresh-same, fresh-closed, one-expansio
 use Rattle.cpt_outcome.proofs.OrderLemmas.{leaf-plans-valid}
 use Rattle.cpt_outcome.proofs.PlanLemmas.{one-plan}
 use Rattle.cpt_outcome.proofs.ReachLemmas.{exhausted-refuted}
+use Rattle.cpt_outcome.specs.Enough.{enough, SpentBelowEnough}
+use Rattle.cpt_outcome.proofs.EnoughLemmas.{trees-enough}
 use Rattle.cpt_outcome.proofs.GoalLemmas.{zero-empty}
 
 -- a sheet that is closed for all of some rules is closed for two of them
@@ -165,6 +167,9 @@ outcomes-hold w most n (budget_spent r) ok small (first, e, le, (low, high, belo
 
 pub spent-is-larger : SpentIsLarger
 spent-is-larger w most n r (first, e, le, c) = spent-larger (search_tree w) n first most (suc r) c
+
+pub spent-below-enough : SpentBelowEnough
+spent-below-enough w most n r inside one h = larger-below (search_tree w (suc r)) n (enough w.task (suc r)) (spent-is-larger w most n r h) (trees-enough w (suc r) inside one)
 
 -- an optimal plan has the makespan of every optimal plan
 same-makespan : (t : TaskShape) (p q : List Occ) → IsOptimal t p → IsOptimal t q → makespan t p ≡ makespan t q

@@ -1,7 +1,7 @@
 //! Laws of search trees and outcomes: their contracts are what they say, and their bodies are empty.
 
-ghost use Rattle.cpt_outcome.specs.Nodes.{ChoicesFit, FreshIsClosed, OneExpansion, TraversalsAgree};
-ghost use Rattle.cpt_outcome.specs.Enough.{ChainsShort, ChoicesCommit, TreesEnough};
+ghost use Rattle.cpt_outcome.specs.Nodes.{NodesVisited, ChoicesFit, FreshIsClosed, OneExpansion, TraversalsAgree};
+ghost use Rattle.cpt_outcome.specs.Enough.{SpentBelowEnough, ChainsShort, ChoicesCommit, TreesEnough};
 ghost use Rattle.cpt_outcome.specs.Partial.{PartialTextsCount};
 ghost use Rattle.cpt_outcome.specs.Refuting.{ExhaustedTreesRefute, FinishedTextsRefute, TextsBelowRefute};
 ghost use Rattle.cpt_outcome.specs.Leaves.{LeafPlansValid, OnePlan};
@@ -105,4 +105,14 @@ pub fn zero_goals_empty()
 /// The text of a partial tree closes or branches exactly as many nodes as were visited, and leaves some open.
 pub fn partial_texts_count()
     ensures { PartialTextsCount }
+{}
+
+/// A finished tree is visited whole: its nodes, and no other.
+pub fn nodes_visited()
+    ensures { NodesVisited }
+{}
+
+/// A budget that is spent is below enough.
+pub fn spent_below_enough()
+    ensures { SpentBelowEnough }
 {}
