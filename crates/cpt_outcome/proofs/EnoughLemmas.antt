@@ -1,8 +1,8 @@
 -- each tree is finite
-use Rattle.std.proofs.Common.{◌≡◌, ◌≢◌, ℕ, zero, suc, ◌+◌, ◌*◌, ◌≤◌, ◌<◌, ◌==◌, ◌⊎◌, inl, inr, true, false, List, [], ◌∷◌, ◌++◌, length, map, Contains, slice_index_or, Option, Some, None, refl, sym, ap, ◌∙◌, subst, arith, length-append}
+use Rattle.std.proofs.Common.{◌≡◌, ◌≢◌, ℕ, zero, suc, ◌+◌, ◌*◌, ◌≤◌, ◌<◌, ◌==◌, ◌⊎◌, inl, inr, true, false, List, [], ◌∷◌, ◌++◌, length, map, Contains, slice_index_or, Some, refl, sym, ap, ◌∙◌, subst, arith, length-append}
 use Rattle.std.specs.List.{list_any}
 use Rattle.std.proofs.lemmas.Bool.{cases_lt, cases_order, or_left, or_right}
-use Rattle.std.proofs.lemmas.List.{length-map, get_or_append_left, same_from_push}
+use Rattle.std.proofs.lemmas.List.{length-map, get_or_append_left}
 use Rattle.std.proofs.lemmas.List.Elements.{Contains-append_right}
 use Rattle.std.proofs.lemmas.Nat.{mul-add-lt}
 use Rattle.std.proofs.Math.Seq.{get_or-append_seam}
@@ -17,17 +17,12 @@ use Rattle.cpt_sheet.specs.declared.data.Flaw.TheVariants.{Threat, OpenNeed, Cla
 use Rattle.cpt_sheet.specs.declared.data.Sheet.{Sheet}
 use Rattle.cpt_sheet.specs.declared.data.Step.TheVariants.{R1}
 use Rattle.cpt_sheet.specs.Formed.{IsFormed, IsAscending, CanAdd, Precedes}
-use Rattle.cpt_sheet.specs.Live.{IsLive}
 use Rattle.cpt_sheet.specs.Roles.{needs_of}
 use Rattle.cpt_sheet.specs.View.{token_at, kind_of, same, has, cands, before}
-use Rattle.cpt_calculus.specs.Closing.{IsFresh, ClosesTo, IsClosed}
-use Rattle.cpt_calculus.specs.Closing.IsFresh.{at_root, decided}
-use Rattle.cpt_calculus.specs.Decisions.{Fits, applied}
+use Rattle.cpt_calculus.specs.Decisions.{Fits}
 use Rattle.cpt_calculus.specs.Flaws.{IsFlaw, children, choice}
-use Rattle.cpt_calculus.specs.Root.{root_of}
 use Rattle.cpt_calculus.specs.Rules.{only}
 use Rattle.cpt_soundness.proofs.ActingLemmas.{atom_there}
-use Rattle.cpt_soundness.proofs.FitLemmas.{children_fit}
 use Rattle.cpt_soundness.proofs.FormedLemmas.{cand_there}
 use Rattle.cpt_soundness.proofs.ViewLemmas.{same_self}
 use Rattle.cpt_tree.specs.declared.expansion.Expansion.{Expansion}
@@ -38,7 +33,7 @@ use Rattle.cpt_tree.proofs.CountLemmas.{tree-bounded}
 use Rattle.cpt_outcome.specs.Nodes.{SearchProblem, IsFreshAt, search_tree}
 use Rattle.cpt_outcome.specs.Enough.{geometric, NeedsAtMost, most_tokens, most_decisions, most_children, greater, most_preconditions, most_needs, Commitment, on_list, on_order, commitment_of, IsMade, IsOfSheet, ChoicesCommit, TreesEnough}
 use Rattle.cpt_outcome.proofs.LeafLemmas.{index-same}
-use Rattle.cpt_outcome.proofs.NodeLemmas.{fresh-same, fresh-closed, choice-fits}
+use Rattle.cpt_outcome.proofs.NodeLemmas.{fresh-closed, choice-fits}
 use Rattle.cpt_outcome.proofs.BroughtLemmas.{fresh-brought}
 use Rattle.cpt_fresh.specs.Extending.{Carries}
 use Rattle.cpt_fresh.proofs.ExtendLemmas.{listed_need}

@@ -9,3 +9,4 @@ pub mod ChainLemmas
 pub mod ReachLemmas
 pub mod GoalLemmas
 pub mod OutcomeLemmas
+pub mod PartialLemmas

@@ -1,5 +1,5 @@
 -- how nodes expand, and that trees without a leaf refute their bounds
-use Rattle.std.proofs.Common.{◌≡◌, ℕ, ◌≤◌, ◌<◌, inl, inr, List, [], ◌∷◌, ◌++◌, length, Contains, Option, Some, None, refl, sym, ap, ◌∙◌, subst, arith}
+use Rattle.std.proofs.Common.{◌≡◌, ℕ, ◌≤◌, ◌<◌, inl, inr, List, [], ◌∷◌, ◌++◌, Contains, Option, Some, None, refl, sym, ◌∙◌, subst, arith}
 use Rattle.cpt_task.specs.Optimal.{IsRefuted}
 use Rattle.cpt_task.specs.Shape.{TaskShape}
 use Rattle.cpt_task.specs.Timeline.{makespan}
@@ -31,10 +31,12 @@ use Rattle.cpt_fresh.proofs.FreshLemmas.{one_fresh, one_beginning}
 use Rattle.cpt_fresh.proofs.LastLemmas.{tokens_by_decisions}
 use Rattle.cpt_tree.specs.declared.expansion.Expansion.{Expansion}
 use Rattle.cpt_tree.specs.declared.expansion.Expansion.TheVariants.{Closed, Leaf, Branched}
-use Rattle.cpt_tree.specs.Trees.{Node, choices, root}
+use Rattle.cpt_tree.specs.Trees.{Node, choices, root, top}
+use Rattle.cpt_tree.specs.Counts.{visited_nodes}
+use Rattle.cpt_tree.proofs.CountLemmas.{node-visited, visited-node, nodes-listed}
 use Rattle.cpt_tree.proofs.TextLemmas.{written-induction}
 use Rattle.cpt_tree.proofs.TraversalLemmas.{one-traversal}
-use Rattle.cpt_outcome.specs.Nodes.{SearchProblem, IsFreshAt, IsNodeEnd, search_tree, node_runs, OneExpansion, TraversalsAgree, IsClosedSheet, FreshIsClosed, ChoicesFit}
+use Rattle.cpt_outcome.specs.Nodes.{SearchProblem, IsFreshAt, IsNodeEnd, search_tree, node_runs, NodesVisited, OneExpansion, TraversalsAgree, IsClosedSheet, FreshIsClosed, ChoicesFit}
 use Rattle.cpt_outcome.specs.Refuting.{FinishedTextsRefute, TextsBelowRefute}
 
 pub fresh-same : (w : SearchProblem) (b : ℕ) (ds : Node) (u v : Sheet) → IsFreshAt w b ds (Some u) → IsFreshAt w b ds (Some v) → u ≡ v
@@ -96,6 +98,12 @@ one-expansion w b ds (Branched f js) (Branched g ks) (u, fu, ff, ju) (v, fv, fg,
 
 pub traversals-agree : TraversalsAgree
 traversals-agree w b stack fs gs frontier rest t s le = one-traversal (search_tree w b) (one-expansion w b) stack fs gs frontier rest t s le
+
+pub nodes-visited : NodesVisited
+nodes-visited w b fs p t = (
+  (λ n. node-visited (search_tree w b) (one-expansion w b) fs t p n),
+  (λ v. nodes-listed (search_tree w b) (visited_nodes root fs) p (visited-node (search_tree w b) root fs [] t (top, tt)) v),
+)
 
 -- a closed tree stands over the sheet at which the node's steps begin
 abbrev pub IsRefutedAt : SearchProblem → ℕ → Node → Type 0

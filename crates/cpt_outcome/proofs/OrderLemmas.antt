@@ -1,5 +1,5 @@
 -- a leaf's plan in any order
-use Rattle.std.proofs.Common.{◌≡◌, ◌≢◌, ℕ, zero, suc, ◌+◌, ◌-◌, ◌≤◌, ◌<◌, ◌⊎◌, inl, inr, List, [], ◌∷◌, length, map, drop, get_or, slice_index_or, slice_get, unwrap_or, refl, sym, ap, ◌∙◌, subst, arith, length-drop}
+use Rattle.std.proofs.Common.{◌≡◌, ◌≢◌, ℕ, ◌+◌, ◌-◌, ◌<◌, ◌⊎◌, inl, inr, List, length, drop, get_or, refl, sym, ap, ◌∙◌, arith, length-drop}
 use Rattle.std.specs.List.{swap}
 use Rattle.std.specs.List.Sorted.{IsPermutation}
 use Rattle.std.proofs.lemmas.Bool.{cases_eq}
@@ -9,23 +9,19 @@ use Rattle.std.proofs.lemmas.List.Edits.{swapped_from_swap, length-swap}
 use Rattle.std.proofs.lemmas.List.Elements.{recursion_from_All}
 use Rattle.std.proofs.lemmas.List.Sorted.{IsPermutation-keeps}
 use Rattle.cpt_task.specs.declared.plan.Occ.{Occ}
-use Rattle.cpt_task.specs.declared.span.Span.{Span}
-use Rattle.cpt_task.specs.declared.span.Span.TheVariants.{At, Never}
+use Rattle.cpt_task.specs.declared.span.Span.TheVariants.{At}
 use Rattle.cpt_task.specs.Shape.{TaskShape}
 use Rattle.cpt_task.specs.Timeline.{occurrence_at}
-use Rattle.cpt_tables.specs.Spans.{◌≤ˢ◌}
 use Rattle.cpt_sheet.specs.declared.data.Cand.TheVariants.{Tok}
-use Rattle.cpt_sheet.specs.declared.data.Kind.{Kind}
-use Rattle.cpt_sheet.specs.declared.data.Kind.TheVariants.{Start, End, Act}
+use Rattle.cpt_sheet.specs.declared.data.Kind.TheVariants.{Act}
 use Rattle.cpt_sheet.specs.declared.data.Sheet.{Sheet}
-use Rattle.cpt_sheet.specs.declared.data.Token.{Token}
 use Rattle.cpt_sheet.specs.Edits.{moment_or}
 use Rattle.cpt_sheet.specs.Formed.{IsFormed}
 use Rattle.cpt_sheet.specs.Live.{IsLive, IsLiveToken}
 use Rattle.cpt_sheet.specs.View.{lo, hi, kind_of, token_at, no_token}
 use Rattle.cpt_calculus.proofs.Below.{at_within}
 use Rattle.cpt_outcome.specs.Leaves.{IsTokenMap, act_of, occurrence_of, token_occurrences, LeafPlansValid}
-use Rattle.cpt_outcome.proofs.LeafLemmas.{finite, index-same, leaf-valid}
+use Rattle.cpt_outcome.proofs.LeafLemmas.{finite, leaf-valid}
 
 -- the plan of a leaf
 

@@ -1,5 +1,5 @@
 -- a search has one outcome, and what that says is so
-use Rattle.std.proofs.Common.{◌≡◌, ◌≢◌, ℕ, zero, suc, ◌+◌, ◌≤◌, ◌<◌, ◌==◌, ◌||◌, ◌⊎◌, inl, inr, Bool, true, false, List, [], ◌∷◌, length, Some, refl, sym, ap, ◌∙◌, subst, arith}
+use Rattle.std.proofs.Common.{◌≡◌, ◌≢◌, ℕ, suc, ◌≤◌, ◌<◌, ◌==◌, ◌||◌, ◌⊎◌, inl, inr, true, false, List, [], ◌∷◌, Some, refl, sym, ap, ◌∙◌, subst, arith}
 use Rattle.std.specs.List.{list_any}
 use Rattle.std.proofs.lemmas.Bool.{cases_lt, eqb-true, or_cases}
 use Rattle.cpt_task.specs.declared.plan.Occ.{Occ}
@@ -10,26 +10,25 @@ use Rattle.cpt_task.specs.Shape.{TaskShape}
 use Rattle.cpt_task.specs.Timeline.{makespan, IsValid}
 use Rattle.cpt_tables.specs.declared.tables.Tables.{Tables}
 use Rattle.cpt_tables.specs.Spans.{◌≤ˢ◌}
-use Rattle.cpt_tables.specs.Shapes.{set_span_of}
 use Rattle.cpt_sheet.specs.declared.data.Sheet.{Sheet}
-use Rattle.cpt_sheet.specs.declared.data.Step.{Step}
 use Rattle.cpt_calculus.specs.Closing.{IsClosed}
 use Rattle.cpt_calculus.specs.Flaws.{HasNoFlaw}
-use Rattle.cpt_calculus.specs.Rules.{IsLegal, rule_of}
+use Rattle.cpt_calculus.specs.Rules.{rule_of}
 use Rattle.cpt_soundness.specs.Acting.{IsAdmissible}
 use Rattle.cpt_soundness.proofs.PlanLemmas.{goal_bounds}
-use Rattle.cpt_tree.specs.Trees.{Node, SearchTree, IsFirstLeaf}
+use Rattle.cpt_tree.specs.Trees.{Node, SearchTree}
 use Rattle.cpt_tree.specs.Deepening.{Conclusion, solved, exhausted, spent, AreExhausted, Concludes}
-use Rattle.cpt_tree.specs.Counts.{HasMoreNodes}
 use Rattle.cpt_tree.proofs.ConclusionLemmas.{one-conclusion}
-use Rattle.cpt_tree.proofs.BudgetLemmas.{spent-larger}
+use Rattle.cpt_tree.proofs.BudgetLemmas.{spent-larger, larger-below}
 use Rattle.cpt_outcome.specs.Nodes.{SearchProblem, IsFreshAt, IsClosedSheet, search_tree}
 use Rattle.cpt_outcome.specs.Leaves.{IsSolved, IsPlanOfSheet}
-use Rattle.cpt_outcome.specs.Outcomes.{goal_span, SearchOutcome, never, optimal, none_up_to, budget_spent, IsPlanOfNode, HasOutcome, OneOutcome, Says, IsSearchable, OutcomesHold, SpentIsLarger, FindsPlans, FindsNone}
+use Rattle.cpt_outcome.specs.Outcomes.{goal_span, never, optimal, none_up_to, budget_spent, IsPlanOfNode, HasOutcome, OneOutcome, IsSearchable, OutcomesHold, SpentIsLarger, FindsPlans, FindsNone}
 use Rattle.cpt_outcome.proofs.NodeLemmas.{fresh-same, fresh-closed, one-expansion, early-refuted}
 use Rattle.cpt_outcome.proofs.OrderLemmas.{leaf-plans-valid}
 use Rattle.cpt_outcome.proofs.PlanLemmas.{one-plan}
 use Rattle.cpt_outcome.proofs.ReachLemmas.{exhausted-refuted}
+use Rattle.cpt_outcome.specs.Enough.{enough, SpentBelowEnough}
+use Rattle.cpt_outcome.proofs.EnoughLemmas.{trees-enough}
 use Rattle.cpt_outcome.proofs.GoalLemmas.{zero-empty}
 
 -- a sheet that is closed for all of some rules is closed for two of them
@@ -168,6 +167,9 @@ outcomes-hold w most n (budget_spent r) ok small (first, e, le, (low, high, belo
 
 pub spent-is-larger : SpentIsLarger
 spent-is-larger w most n r (first, e, le, c) = spent-larger (search_tree w) n first most (suc r) c
+
+pub spent-below-enough : SpentBelowEnough
+spent-below-enough w most n r inside one h = larger-below (search_tree w (suc r)) n (enough w.task (suc r)) (spent-is-larger w most n r h) (trees-enough w (suc r) inside one)
 
 -- an optimal plan has the makespan of every optimal plan
 same-makespan : (t : TaskShape) (p q : List Occ) → IsOptimal t p → IsOptimal t q → makespan t p ≡ makespan t q

@@ -1,7 +1,6 @@
 -- that a sheet without a closure leads to a dead one, and one with a closure to that, cannot be denied: so trees refute
 -- by what they are, whatever steps are written down
-use Rattle.std.proofs.Common.{◌≡◌, ℕ, zero, suc, ◌+◌, ◌≤◌, ◌<◌, ◌⊎◌, inl, inr, true, List, [], ◌∷◌, ◌++◌, length, Contains, slice_index_or, Option, Some, None, refl, sym, subst, arith}
-use Rattle.cpt_task.specs.Optimal.{IsRefuted}
+use Rattle.std.proofs.Common.{◌≡◌, ℕ, zero, suc, ◌≤◌, ◌<◌, ◌⊎◌, inl, inr, true, List, [], ◌∷◌, Contains, slice_index_or, refl, sym, subst, arith}
 use Rattle.cpt_task.specs.declared.span.Span.TheVariants.{At}
 use Rattle.cpt_task.specs.Shape.{TaskShape}
 use Rattle.cpt_tables.specs.declared.tables.Tables.{Tables}
@@ -14,9 +13,9 @@ use Rattle.cpt_sheet.specs.declared.data.Decision.{Decision}
 use Rattle.cpt_sheet.specs.declared.data.Flaw.{Flaw}
 use Rattle.cpt_sheet.specs.Formed.{IsFormed}
 use Rattle.cpt_sheet.specs.Live.{IsLive, IsDead, IsOpen}
-use Rattle.cpt_calculus.specs.Closing.{IsClosed, IsFresh, Leads}
+use Rattle.cpt_calculus.specs.Closing.{IsClosed, Leads}
 use Rattle.cpt_calculus.specs.Decisions.{applied}
-use Rattle.cpt_calculus.specs.Flaws.{IsFlaw, children}
+use Rattle.cpt_calculus.specs.Flaws.{children}
 use Rattle.cpt_calculus.specs.Root.{root_of}
 use Rattle.cpt_calculus.specs.Rules.{IsLegal, is_of, narrowed}
 use Rattle.cpt_soundness.specs.Tree.{IsClosedTree}
@@ -28,13 +27,13 @@ use Rattle.cpt_steps.specs.Room.{room}
 use Rattle.cpt_steps.proofs.RoomLemmas.{steps_lessen}
 use Rattle.cpt_fresh.specs.Fresh.{IsBeginning}
 use Rattle.cpt_fresh.specs.Fresh.IsBeginning.{here, after}
-use Rattle.cpt_fresh.proofs.FreshLemmas.{one_fresh, beginning_formed, reaches_fresh}
+use Rattle.cpt_fresh.proofs.FreshLemmas.{beginning_formed, reaches_fresh}
 use Rattle.cpt_tree.specs.declared.expansion.Expansion.TheVariants.{Closed, Leaf, Branched}
 use Rattle.cpt_tree.specs.declared.expansion.Expansion.{Expansion}
 use Rattle.cpt_tree.specs.Trees.{Node, HaveNoLeaf, choices, children_of, root}
 use Rattle.cpt_tree.proofs.TraversalLemmas.{AreAll, leafless-induction}
 use Rattle.cpt_tree.proofs.TextLemmas.{all-each}
-use Rattle.cpt_outcome.specs.Nodes.{SearchProblem, IsFreshAt, search_tree}
+use Rattle.cpt_outcome.specs.Nodes.{SearchProblem, search_tree}
 use Rattle.cpt_outcome.specs.Refuting.{IsSound, ExhaustedTreesRefute}
 use Rattle.cpt_outcome.proofs.NodeLemmas.{fresh-same, fresh-dead, fresh-closed}
 use Rattle.cpt_outcome.proofs.LeafLemmas.{index-same}

@@ -10,6 +10,7 @@ use Rattle.cpt_calculus.specs.Rules.{IsToken}
 use Rattle.cpt_tree.specs.declared.expansion.Expansion.{Expansion}
 use Rattle.cpt_tree.specs.Counts.{power_sum, HasAtMostNodes}
 use Rattle.cpt_tree.specs.Trees.{Node, choices}
+use Rattle.cpt_outcome.specs.Outcomes.{HasOutcome, budget_spent}
 use Rattle.cpt_outcome.specs.Nodes.{SearchProblem, IsFreshAt, search_tree}
 
 -- the greater of the two numbers
@@ -96,6 +97,11 @@ ChoicesCommit =
 -- with rule 1 in use, the tree of a bound has at most enough nodes
 abbrev pub TreesEnough : Type 0
 TreesEnough = (w : SearchProblem) (b : ℕ) → InBounds w.task → list_any (λ n. n == 1) w.rules ≡ true → HasAtMostNodes (search_tree w b) (enough w.task b)
+
+-- with rule 1 in use, a budget that is spent is below enough
+abbrev pub SpentBelowEnough : Type 0
+SpentBelowEnough =
+    (w : SearchProblem) (most n refuted : ℕ) → InBounds w.task → list_any (λ r. r == 1) w.rules ≡ true → HasOutcome w most n (budget_spent refuted) → n < enough w.task (suc refuted)
 
 -- A chain of so many brought tokens, each for a need of the one before it, from the end down to a token.
 pub data IsChain (u : Sheet) : ℕ → ℕ → Type 0 where

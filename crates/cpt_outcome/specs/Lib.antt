@@ -4,3 +4,4 @@ pub mod Leaves
 pub mod Outcomes
 pub mod Enough
 pub mod Goals
+pub mod Partial

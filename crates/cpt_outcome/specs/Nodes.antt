@@ -1,10 +1,9 @@
-use Rattle.std.specs.Prelude.{◌≡◌, ℕ, ◌+◌, ◌<◌, ◌≤◌, length, List, [], ◌∷◌, ◌++◌, Contains, Option, Some, None}
+use Rattle.std.specs.Prelude.{◌≡◌, ℕ, ◌<◌, ◌≤◌, length, List, ◌++◌, Contains, Option, Some, None, []}
 use Rattle.cpt_task.specs.Shape.{TaskShape}
 use Rattle.cpt_tables.specs.declared.tables.Tables.{Tables}
 use Rattle.cpt_sheet.specs.declared.data.Sheet.{Sheet}
 use Rattle.cpt_sheet.specs.declared.data.Step.{Step}
 use Rattle.cpt_sheet.specs.declared.data.Decision.{Decision}
-use Rattle.cpt_sheet.specs.declared.data.Flaw.{Flaw}
 use Rattle.cpt_sheet.specs.Formed.{IsFormed}
 use Rattle.cpt_sheet.specs.Live.{IsLive, IsDead}
 use Rattle.cpt_calculus.specs.Closing.{IsClosed, IsFresh}
@@ -14,7 +13,8 @@ use Rattle.cpt_fresh.specs.Fresh.{IsBeginning}
 use Rattle.cpt_steps.specs.Tight.{RunsTight}
 use Rattle.cpt_tree.specs.declared.expansion.Expansion.{Expansion}
 use Rattle.cpt_tree.specs.declared.expansion.Expansion.TheVariants.{Closed, Leaf, Branched}
-use Rattle.cpt_tree.specs.Trees.{Node, Traverses, choices}
+use Rattle.cpt_tree.specs.Counts.{visited_nodes}
+use Rattle.cpt_tree.specs.Trees.{IsNode, Node, Traverses, choices, root}
 
 -- what is searched: a task, tables over it, and the numbers of the rules in use
 pub record SearchProblem : Type 0 where
@@ -59,6 +59,12 @@ TraversalsAgree =
     (w : SearchProblem) (b : ℕ) (stack : List Node) (fs gs : List Expansion) (frontier rest : List Node) →
     Traverses (search_tree w b) stack fs frontier → Traverses (search_tree w b) stack gs rest → length fs ≤ length gs →
     (hs : List Expansion) × (gs ≡ fs ++ hs) × Traverses (search_tree w b) frontier hs rest
+
+-- a traversal that leaves no frontier visits each node of the tree, the root and the children of branched nodes, and no other
+abbrev pub NodesVisited : Type 0
+NodesVisited =
+    (w : SearchProblem) (b : ℕ) (fs : List Expansion) (p : Node) → Traverses (search_tree w b) root fs [] →
+    (IsNode (search_tree w b) p → Contains (visited_nodes root fs) p) × (Contains (visited_nodes root fs) p → IsNode (search_tree w b) p)
 
 -- what a fresh sheet is: formed, live, and closed for the rules
 pub record IsClosedSheet (w : SearchProblem) (b : ℕ) (u : Sheet) : Type 0 where

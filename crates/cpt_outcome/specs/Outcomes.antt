@@ -5,7 +5,7 @@ use Rattle.cpt_task.specs.declared.span.Span.{Span}
 use Rattle.cpt_task.specs.declared.span.Span.TheVariants.{At, Never}
 use Rattle.cpt_task.specs.Optimal.{IsOptimal, IsRefuted, HasNoPlan}
 use Rattle.cpt_task.specs.Shape.{InBounds}
-use Rattle.cpt_task.specs.Timeline.{IsValid, makespan}
+use Rattle.cpt_task.specs.Timeline.{makespan}
 use Rattle.cpt_tables.specs.Greatest.{IsGreatestPairs}
 use Rattle.cpt_tables.specs.Shapes.{IsWholePairs, set_span_of}
 use Rattle.cpt_sheet.specs.declared.data.Sheet.{Sheet}

@@ -1,7 +1,8 @@
 //! Laws of search trees and outcomes: their contracts are what they say, and their bodies are empty.
 
-ghost use Rattle.cpt_outcome.specs.Nodes.{ChoicesFit, FreshIsClosed, OneExpansion, TraversalsAgree};
-ghost use Rattle.cpt_outcome.specs.Enough.{ChainsShort, ChoicesCommit, TreesEnough};
+ghost use Rattle.cpt_outcome.specs.Nodes.{NodesVisited, ChoicesFit, FreshIsClosed, OneExpansion, TraversalsAgree};
+ghost use Rattle.cpt_outcome.specs.Enough.{SpentBelowEnough, ChainsShort, ChoicesCommit, TreesEnough};
+ghost use Rattle.cpt_outcome.specs.Partial.{PartialTextsCount};
 ghost use Rattle.cpt_outcome.specs.Refuting.{ExhaustedTreesRefute, FinishedTextsRefute, TextsBelowRefute};
 ghost use Rattle.cpt_outcome.specs.Leaves.{LeafPlansValid, OnePlan};
 ghost use Rattle.cpt_outcome.specs.Outcomes.{FindsNone, FindsPlans, OneOutcome, OutcomesHold, SpentIsLarger};
@@ -99,4 +100,19 @@ pub fn chains_short()
 /// Where the greatest pair table gives the goal 0, the empty plan is optimal.
 pub fn zero_goals_empty()
     ensures { ZeroGoalsEmpty }
+{}
+
+/// The text of a partial tree closes or branches exactly as many nodes as were visited, and leaves some open.
+pub fn partial_texts_count()
+    ensures { PartialTextsCount }
+{}
+
+/// A finished tree is visited whole: its nodes, and no other.
+pub fn nodes_visited()
+    ensures { NodesVisited }
+{}
+
+/// A budget that is spent is below enough.
+pub fn spent_below_enough()
+    ensures { SpentBelowEnough }
 {}

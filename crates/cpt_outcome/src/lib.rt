@@ -6,7 +6,7 @@ mod laws;
 
 pub use laws::{
     chains_short, choices_commit, choices_fit, exhausted_trees_refute, finds_none, finds_plans,
-    finished_texts_refute, fresh_is_closed, leaf_plans_valid, one_expansion, one_outcome, one_plan,
-    outcomes_hold, spent_is_larger, texts_below_refute, traversals_agree, trees_enough,
-    zero_goals_empty,
+    finished_texts_refute, fresh_is_closed, leaf_plans_valid, nodes_visited, one_expansion,
+    one_outcome, one_plan, outcomes_hold, partial_texts_count, spent_below_enough, spent_is_larger,
+    texts_below_refute, traversals_agree, trees_enough, zero_goals_empty,
 };
