@@ -5,7 +5,7 @@ use crate::signatures::Signatures;
 use cpt_pddl::Typed;
 
 /// The types, constants, predicates and functions of a domain, each by number.
-#[derive(Debug, Drop)]
+#[derive(Drop)]
 pub struct Declared {
     pub types: Kinds,
     pub constants: Typed,

@@ -12,7 +12,7 @@ use cpt_pddl::{Ancestry, Cursor, Fault, Names, Next, is_name, is_word, type_grou
 use std::alloc::Global;
 
 /// The types by number, and the parent of each. Type 0 is `object`, its own parent.
-#[derive(Debug, Drop)]
+#[derive(Drop)]
 pub struct Kinds {
     pub names: Names,
     pub parents: Ancestry,

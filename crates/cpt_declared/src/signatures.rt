@@ -10,21 +10,21 @@ use cpt_task::List;
 use std::alloc::Global;
 
 /// Predicates or functions by number: their names, and the types of the variables of each.
-#[derive(Debug, Drop)]
+#[derive(Drop)]
 pub struct Signatures {
     pub names: Names,
     pub kinds: List<List<u32>>,
 }
 
 /// What signatures are of.
-#[derive(Clone, Copy, Debug, PartialEq, Eq)]
+#[derive(Clone, Copy)]
 pub enum Sort {
     Predicates,
     Functions,
 }
 
 /// What stood last between functions.
-#[derive(Clone, Copy, Debug, PartialEq, Eq)]
+#[derive(Clone, Copy)]
 pub enum Last {
     /// Nothing, or the word `number`.
     Start,

@@ -6,7 +6,7 @@ ghost use Rattle.cpt_domain.specs.Reading.{is_seen, is_untaken, key_of, unseen, 
 use cpt_pddl::is_word;
 
 /// A section that declares something.
-#[derive(Clone, Copy, Debug, PartialEq, Eq)]
+#[derive(Clone, Copy)]
 pub enum Section {
     Requirements,
     Types,
@@ -16,7 +16,7 @@ pub enum Section {
 }
 
 /// What a word says where it begins a part of a domain.
-#[derive(Clone, Copy, Debug, PartialEq, Eq)]
+#[derive(Clone, Copy)]
 pub enum Key {
     /// A section.
     Section(Section),
@@ -29,7 +29,7 @@ pub enum Key {
 }
 
 /// Which sections stood.
-#[derive(Clone, Copy, Debug)]
+#[derive(Clone, Copy)]
 pub struct Seen {
     pub requirements: bool,
     pub types: bool,

@@ -26,7 +26,7 @@ use std::alloc::Global;
 
 /// A domain while it is read: what is declared, which sections stood, the names of its actions, its actions, and
 /// whether one stood.
-#[derive(Debug, Drop)]
+#[derive(Drop)]
 pub struct State {
     declared: Declared,
     seen: Seen,

@@ -13,7 +13,7 @@ mod object_names;
 mod reader;
 mod signed;
 
-pub use cpt_instance::GroundError;
+pub use cpt_instance::{GroundError, instance_of};
 pub use grounding::ground;
 pub use laws::{one_ground, one_reading, same_plans};
 pub use reader::reading;

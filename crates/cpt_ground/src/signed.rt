@@ -5,7 +5,7 @@ use cpt_task::{List, Name};
 
 /// An action: its name, its duration, the atoms that it needs present and those that it needs absent, and the atoms
 /// that it adds and deletes, each in the order of its schema.
-#[derive(Debug, Drop)]
+#[derive(Drop)]
 pub struct SignedAction {
     pub name: Name,
     pub dur: u32,
@@ -16,7 +16,7 @@ pub struct SignedAction {
 }
 
 /// A task: its actions, the atoms that hold at first, and those that the goal needs present and absent.
-#[derive(Debug, Drop)]
+#[derive(Drop)]
 pub struct Signed {
     pub actions: List<SignedAction>,
     pub init: List<Fact>,

@@ -10,7 +10,7 @@ use cpt_task::Memory;
 use std::alloc::Global;
 
 /// The most type-correct lists that are grounded.
-pub const LIST_LIMIT: usize = 1_000_000;
+pub const INSTANCE_LIMIT: usize = 1_000_000;
 
 /// The types of the constants and objects, by number.
 pub fn object_kinds(alloc: Global, domain: &Domain, problem: &Problem) -> Result<Vec<u32>, Memory>
@@ -38,7 +38,7 @@ pub fn list_count(types: &Ancestry, kinds: &[u32], wanted: &[u32]) -> usize
 {
     let mut count = 1;
     for kind in wanted {
-        count = (count * member_count(types, kinds, *kind)).min(LIST_LIMIT + 1);
+        count = (count * member_count(types, kinds, *kind)).min(INSTANCE_LIMIT + 1);
     }
     count
 }
@@ -50,7 +50,7 @@ pub fn schemas_count(types: &Ancestry, kinds: &[u32], schemas: &[Schema]) -> usi
 {
     let mut count = 0;
     for schema in schemas {
-        count = (count + list_count(types, kinds, schema.kinds.as_slice())).min(LIST_LIMIT + 1);
+        count = (count + list_count(types, kinds, schema.kinds.as_slice())).min(INSTANCE_LIMIT + 1);
     }
     count
 }

@@ -8,7 +8,7 @@ ghost use Rattle.cpt_instance.specs.Instances.{parents_of};
 ghost use Rattle.cpt_instance.specs.Listing.{Adds, AddsWhere, AreAll, IsChosen, IsKept, IsOfFirst, IsOfSchema, ListsInstances};
 
 use crate::choices::{choice_at, choices_of};
-use crate::counting::{LIST_LIMIT, list_count, object_kinds, schemas_count};
+use crate::counting::{INSTANCE_LIMIT, list_count, object_kinds, schemas_count};
 use crate::durations::{ValueMap, duration_in};
 use crate::error::GroundError;
 use crate::instances::Instance;
@@ -142,7 +142,7 @@ pub fn instances_of(
     let types = ancestry_of(alloc, domain)?;
     let schemas = domain.schemas.as_slice();
     let kinds = object_kinds(alloc, domain, problem)?;
-    if schemas_count(&types, &kinds, schemas) > LIST_LIMIT {
+    if schemas_count(&types, &kinds, schemas) > INSTANCE_LIMIT {
         return Err(GroundError::Limit(Limit::Instances));
     }
     Ok(List::from_vec(of_schemas(alloc, &types, &kinds, values, schemas)?))

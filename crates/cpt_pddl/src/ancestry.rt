@@ -11,7 +11,7 @@ use std::alloc::Global;
 use std::marker::Model;
 
 /// The parents of types by their numbers, fewer than 2^32, and a ladder exactly where type 0 is above all types.
-#[derive(Debug, Drop)]
+#[derive(Drop)]
 pub struct Ancestry {
     parents: Vec<u32>,
     ladder: Option<Ladder>,

@@ -8,7 +8,7 @@ use cpt_sexp::{Forest, Item};
 
 /// A place in a group of a parsed text, or between its outermost items. What is left are the items from the
 /// place to the end of the group.
-#[derive(Clone, Copy, Debug)]
+#[derive(Clone, Copy)]
 pub struct Cursor<'a> {
     items: &'a [Item],
     text: &'a [u8],
@@ -18,7 +18,7 @@ pub struct Cursor<'a> {
 }
 
 /// The first item that is left, with the byte at which it begins.
-#[derive(Clone, Copy, Debug)]
+#[derive(Clone, Copy)]
 pub enum Next<'a> {
     /// Nothing is left. The byte of the closing parenthesis, or the length of the text.
     End(u32),

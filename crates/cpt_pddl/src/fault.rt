@@ -33,7 +33,7 @@ pub enum Feature {
 }
 
 /// The first fault of a domain or problem text, with its byte.
-#[derive(Clone, Copy, Debug, PartialEq, Eq)]
+#[derive(Clone, Copy)]
 pub enum Fault {
     /// The item here is not in the grammar.
     Shape(u32),

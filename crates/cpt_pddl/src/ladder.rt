@@ -11,7 +11,7 @@ use cpt_task::{List, Memory};
 use std::alloc::Global;
 
 /// What tells in few steps whether a type is below another, where type 0 is above all types.
-#[derive(Debug, Drop)]
+#[derive(Drop)]
 pub struct Ladder {
     /// For each type, by rows, the types that are 1, 2, 4, 8 .. steps above it.
     pub rows: Vec<List<u32>>,

@@ -9,7 +9,6 @@ use std::alloc::Global;
 use std::marker::Model;
 
 /// Names in the order in which they were declared, fewer than 2^32.
-#[derive(Debug)]
 pub struct Names {
     items: Vec<Name>,
     /// The first place of each name.

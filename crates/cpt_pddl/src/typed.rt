@@ -14,7 +14,7 @@ use cpt_task::{Limit, List};
 use std::alloc::Global;
 
 /// What a typed list declares.
-#[derive(Clone, Copy, Debug, PartialEq, Eq)]
+#[derive(Clone, Copy)]
 pub enum Sort {
     /// Names of constants or objects.
     Objects,
@@ -23,14 +23,14 @@ pub enum Sort {
 }
 
 /// Names in the order of the text, and the type of each.
-#[derive(Debug, Drop)]
+#[derive(Drop)]
 pub struct Typed {
     pub names: Names,
     pub kinds: List<u32>,
 }
 
 /// A typed list being read: the names so far, the types of those whose run has ended, and whether a dash was last.
-#[derive(Debug, Drop)]
+#[derive(Drop)]
 pub struct Reading {
     names: Names,
     kinds: Vec<u32>,

@@ -12,7 +12,7 @@ use crate::fault::Feature;
 use cpt_line::count_digits;
 
 /// What a word says where it begins a condition, an effect or a goal.
-#[derive(Clone, Copy, Debug, PartialEq, Eq)]
+#[derive(Clone, Copy)]
 pub enum Head {
     /// `and`.
     And,

@@ -1,4 +1,4 @@
-//! Tests of the readers of domains and problems: texts with their faults, and texts read whole.
+//! Tests of the readers of parenthesised texts, domains and problems: texts with their faults, and texts read whole.
 #![tactic(auto)]
 
 #[cfg(test)]
@@ -15,6 +15,8 @@ mod domain_rows;
 mod domain_shapes;
 #[cfg(test)]
 mod domains;
+#[cfg(test)]
+mod parsing;
 #[cfg(test)]
 mod problem_faults;
 #[cfg(test)]

@@ -14,7 +14,7 @@ use cpt_pddl::{Cursor, Fault, Feature, Head, Next, group_at, head_of, nothing};
 use std::alloc::Global;
 
 /// A goal so far: the atoms that are to be there, and those that are to be absent.
-#[derive(Debug, Drop)]
+#[derive(Drop)]
 pub struct Goals {
     pub present: Vec<Fact>,
     pub absent: Vec<Fact>,

@@ -17,7 +17,7 @@ use cpt_schema::Schema;
 use std::alloc::Global;
 
 /// What holds at first, so far.
-#[derive(Debug, Drop)]
+#[derive(Drop)]
 pub struct Inits {
     pub facts: Vec<Fact>,
     pub values: Values,

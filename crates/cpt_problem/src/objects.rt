@@ -13,7 +13,7 @@ use cpt_task::List;
 use std::alloc::Global;
 
 /// A predicate or function by its number, and an object for each of its variables.
-#[derive(Debug, Drop)]
+#[derive(Drop)]
 pub struct Filled {
     pub number: u32,
     pub args: List<u32>,

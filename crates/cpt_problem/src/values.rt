@@ -11,7 +11,7 @@ use indexmap::IndexSet;
 use std::alloc::Global;
 
 /// Values in the order of the text.
-#[derive(Debug, Drop)]
+#[derive(Drop)]
 pub struct Values {
     pub items: Vec<Valued>,
     /// The function of each value, and then its objects.

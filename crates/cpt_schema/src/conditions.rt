@@ -23,7 +23,7 @@ pub struct Test {
 }
 
 /// The conditions of an action: atoms that are to be there, atoms that are to be absent, and tests.
-#[derive(Debug, Drop)]
+#[derive(Drop)]
 pub struct Conditions {
     pub pre: Vec<Lit>,
     pub absent: Vec<Lit>,

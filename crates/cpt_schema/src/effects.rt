@@ -12,21 +12,21 @@ use cpt_pddl::{Cursor, Fault, Feature, Head, Next, Typed, group_at, head_of, is_
 use std::alloc::Global;
 
 /// An atom that is added or deleted. It is marked where it is added at the start or deleted at the end.
-#[derive(Debug, Drop)]
+#[derive(Drop)]
 pub struct Effect {
     pub lit: Lit,
     pub marked: bool,
 }
 
 /// The effects of an action.
-#[derive(Debug, Drop)]
+#[derive(Drop)]
 pub struct Effects {
     pub adds: Vec<Effect>,
     pub dels: Vec<Effect>,
 }
 
 /// When an effect is said to happen. A tag is named by the byte of its parenthesis.
-#[derive(Clone, Copy, Debug, PartialEq, Eq)]
+#[derive(Clone, Copy)]
 pub enum Tag {
     Plain,
     Start(u32),

@@ -9,7 +9,7 @@ use crate::item::Item;
 use std::marker::Model;
 
 /// A parsed text: its words and groups in the order of the text, and its bytes with the letters in lower case.
-#[derive(Debug, Drop)]
+#[derive(Drop)]
 pub struct Forest {
     items: Vec<Item>,
     text: Vec<u8>,

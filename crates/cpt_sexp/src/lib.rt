@@ -7,8 +7,6 @@ mod item;
 mod laws;
 mod parsing;
 mod reading;
-#[cfg(test)]
-mod tests;
 
 pub use forest::Forest;
 pub use item::{Item, SexpError};

@@ -14,14 +14,14 @@ use crate::item::{Item, SexpError};
 use std::alloc::Global;
 
 /// A group that is open: the byte of its parenthesis, and the number of its item.
-#[derive(Clone, Copy, Debug, PartialEq, Eq)]
+#[derive(Clone, Copy)]
 pub struct Opened {
     from: u32,
     item: u32,
 }
 
 /// What has been read of a text: its items, and which of them are groups that are still open.
-#[derive(Debug, Drop)]
+#[derive(Drop)]
 struct Reading {
     items: Vec<Item>,
     opened: Vec<Opened>,

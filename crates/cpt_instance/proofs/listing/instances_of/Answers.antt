@@ -4,8 +4,8 @@ use Rattle.cpt_instance.specs.Instances.{AreInstances, Instance, type_correct_li
 use Rattle.cpt_instance.proofs.InstanceLemmas.{counted, listed, total_here}
 use Rattle.cpt_instance.proofs.listing.instances_of.Goals as goal
 
-pub returns-then-schemas_count-gt-LIST_LIMIT-clause-exact : goal.returns-then-schemas_count-gt-LIST_LIMIT-clause-exact
-returns-then-schemas_count-gt-LIST_LIMIT-clause-exact c =
+pub returns-then-schemas_count-gt-INSTANCE_LIMIT-clause-exact : goal.returns-then-schemas_count-gt-INSTANCE_LIMIT-clause-exact
+returns-then-schemas_count-gt-INSTANCE_LIMIT-clause-exact c =
     let n : c.schemas_count.result ≡ min (type_correct_lists c.args.domain.now c.args.problem.now) 1000001 =
     counted c.args.domain.now c.args.problem.now c.in_ok-types.types c.deref.result.now c.as_slice-schemas.result.now c.schemas_count.result
     c.in_ok-types.ensures (c.deref.ensures.value ∙ c.in_ok-kinds.ensures) c.as_slice-schemas.ensures c.schemas_count.ensures in

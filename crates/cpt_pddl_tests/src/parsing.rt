@@ -1,6 +1,6 @@
-//! Texts with their items, and texts with their faults.
+//! Parenthesised texts with their items, and with their faults.
 
-use crate::{Item, SexpError, parse};
+use cpt_sexp::{Item, SexpError, parse};
 use std::alloc::{AllocError, Global};
 
 fn word(from: u32, to: u32) -> Item {
