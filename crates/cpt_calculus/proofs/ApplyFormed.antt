@@ -1,18 +1,16 @@
 -- decisions keep a sheet formed
-use Rattle.std.proofs.Common.{◌≡◌, ◌≢◌, ℕ, zero, suc, ◌+◌, ◌≤◌, ◌<◌, List, [], ◌∷◌, ◌++◌, Bool, true, false, ◌||◌, ◌&&◌, ◌==◌, if◌then◌else◌, length, map, slice_get, unwrap_or, refl, sym, ◌∙◌, ap, subst, arith, lit≤, inl, inr, ◌⊎◌, length-append, length-set}
+use Rattle.std.proofs.Common.{◌≡◌, ◌≢◌, ℕ, ◌+◌, ◌≤◌, ◌<◌, List, [], ◌∷◌, Bool, true, false, if◌then◌else◌, length, map, refl, sym, ◌∙◌, ap, subst, arith, inl, inr, ◌⊎◌, length-append, length-set}
 use Rattle.std.proofs.lemmas.List.{length-map}
 use Rattle.std.proofs.Common.{Result, Ok, Err}
 use Rattle.std.specs.Prelude.{OnOk}
 use Rattle.cpt_task.specs.declared.memory.Memory.{Memory}
-use Rattle.std.proofs.lemmas.Bool.{cases_lt, cases_Bool, or_cases, or_left, or_right, and_parts, and_from, eqb-true, eq-eqb}
+use Rattle.std.proofs.lemmas.Bool.{cases_lt, or_cases, or_left, or_right}
 use Rattle.cpt_task.specs.Shape.{TaskShape}
 use Rattle.cpt_tables.specs.Spans.{IsBelow}
 use Rattle.cpt_tables.specs.Admissible.{nth_action}
-use Rattle.cpt_tables.proofs.SpanLemmas.{below_more}
 use Rattle.cpt_sheet.specs.declared.data.Cand.{Cand}
 use Rattle.cpt_sheet.specs.declared.data.Cand.TheVariants.{Tok, Out}
-use Rattle.cpt_sheet.specs.declared.data.Kind.{Kind}
-use Rattle.cpt_sheet.specs.declared.data.Kind.TheVariants.{Start, End, Act}
+use Rattle.cpt_sheet.specs.declared.data.Kind.TheVariants.{Act}
 use Rattle.cpt_sheet.specs.declared.data.Interval.{Interval}
 use Rattle.cpt_sheet.specs.declared.data.Need.{Need}
 use Rattle.cpt_sheet.specs.declared.data.Token.{Token}
@@ -20,14 +18,16 @@ use Rattle.cpt_sheet.specs.declared.data.Sheet.{Sheet}
 use Rattle.cpt_sheet.specs.declared.data.Decision.{Decision}
 use Rattle.cpt_sheet.specs.declared.data.Decision.TheVariants.{Join, Bring, Before}
 use Rattle.cpt_sheet.specs.Roles.{Adds, needs_of}
-use Rattle.cpt_sheet.specs.View.{kind_of, token_at, no_token, no_span, span_of, has, same, has_need, has_order, has_atom, before, cands, list_for, lo, hi}
-use Rattle.cpt_sheet.specs.Edits.{with_list, posted, with_order, revised}
+use Rattle.cpt_sheet.specs.View.{kind_of, token_at, no_token, no_span, span_of, has, same, has_order, before, cands, list_for, lo, hi}
+use Rattle.cpt_sheet.specs.Edits.{posted, with_order, revised}
 use Rattle.cpt_sheet.specs.Formed.{IsFormed, IsActionOf, CanAdd, Precedes, IsAscending, IsIncreasing, IsPlaced}
-use Rattle.cpt_sheet.proofs.FormedLemmas.{at_past, lo_below}
-use Rattle.cpt_calculus.specs.Decisions.{Fits, applied, need_for, brought, behind_tokens, beside, offer, offered, with_offers, joined, with_new}
+use Rattle.cpt_sheet.proofs.FormedLemmas.{lo_below}
+use Rattle.cpt_calculus.specs.Decisions.{Fits, applied, brought, behind_tokens, beside, offered, with_offers, joined, with_new}
 use Rattle.cpt_calculus.proofs.Parts.{same_is, same_self}
 use Rattle.cpt_calculus.proofs.Orders.{increasing_with}
-use Rattle.cpt_calculus.proofs.Below.{list_cons, order_posted}
+use Rattle.cpt_calculus.proofs.Below.{posted_more, posted_here, posted_cases}
+use Rattle.cpt_calculus.proofs.Brings.{map_at, offer_list, offered_atoms}
+use Rattle.cpt_calculus.proofs.Reading.{cand_there}
 use Rattle.cpt_calculus.proofs.Views.{kind_with_list, span_with_list, atoms_with_list, cands_with_list}
 use Rattle.cpt_calculus.proofs.Keeps.{list_formed, posted_formed}
 use Rattle.cpt_calculus.proofs.Adders.{IsAdderIn, made_adder, made_ascending, atoms_made, has_one, ascending_one}
@@ -87,34 +87,9 @@ beside_ascending a n cs b h = go (has (Out a) cs)
     go true = behind_ascending n cs b h
     go false = h
 
--- the lists with the offers
-offers_list : (a n q : ℕ) (ns : List Need) → list_for q (map (offer a n) ns) ≡ beside a n (list_for q ns)
-offers_list a n q [] = refl
-offers_list a n q (m ∷ ns) =
-    list_cons q (offer a n m) (map (offer a n) ns) ∙ (go (m.atom == q) (offers_list a n q ns) ∙ sym (ap (λ l. beside a n l) (list_cons q m ns)))
-  where
-    go : (b : Bool) → list_for q (map (offer a n) ns) ≡ beside a n (list_for q ns) → (if b then beside a n m.cands else list_for q (map (offer a n) ns)) ≡ beside a n (if b then m.cands else list_for q ns)
-    go true ih = refl
-    go false ih = ih
-
-atoms_offered : (a n : ℕ) (ns : List Need) → map (λ (m : Need). m.atom) (map (offer a n) ns) ≡ map (λ (m : Need). m.atom) ns
-atoms_offered a n [] = refl
-atoms_offered a n (m ∷ ns) = ap (λ l. m.atom ∷ l) (atoms_offered a n ns)
-
-mapped_at : (a n : ℕ) (zs : List Token) (y : ℕ) → unwrap_or (slice_get (map (offered a n) zs) y) no_token ≡ offered a n (unwrap_or (slice_get zs y) no_token)
-mapped_at a n [] y = refl
-mapped_at a n (z ∷ zs) zero = refl
-mapped_at a n (z ∷ zs) (suc y) = mapped_at a n zs y
-
+-- the tokens with the offers
 token_offered : (s : Sheet) (a n y : ℕ) → token_at (with_offers s a n) y ≡ offered a n (token_at s y)
-token_offered s a n y = mapped_at a n s.tokens y
-
-need_there : (s : Sheet) (x p : ℕ) (c : Cand) → has c (cands s x p) ≡ true → x < length s.tokens
-need_there s x p c h =
-    elim (cases_lt x (length s.tokens)) [
-      | inl l ↦ l
-      | inr m ↦ absurd (let e : has c (list_for p no_token.lists) ≡ true = subst (λ (z : Token). has c (list_for p z.lists) ≡ true) (at_past s.tokens no_token x m) h in cc)
-    ]
+token_offered s a n y = map_at a n s.tokens y
 
 increasing_posted : (x y : ℕ) (os : List (ℕ × ℕ)) → IsIncreasing os → IsIncreasing (posted x y os)
 increasing_posted x y os h = go (has_order x y os) refl
@@ -122,19 +97,6 @@ increasing_posted x y os h = go (has_order x y os) refl
     go : (b : Bool) → has_order x y os ≡ b → IsIncreasing (if b then os else with_order x y os)
     go true e = h
     go false e = increasing_with x y os e h
-
-posted_more : (x y u v : ℕ) (os : List (ℕ × ℕ)) → has_order u v os ≡ true → has_order u v (posted x y os) ≡ true
-posted_more x y u v os h = order_posted x y u v os ∙ or_right ((x == u) && (y == v)) (has_order u v os) h
-
-posted_here : (x y : ℕ) (os : List (ℕ × ℕ)) → has_order x y (posted x y os) ≡ true
-posted_here x y os = order_posted x y x y os ∙ or_left ((x == x) && (y == y)) (has_order x y os) (and_from (x == x) (y == y) (eq-eqb x x refl) (eq-eqb y y refl))
-
-posted_cases : (x y u v : ℕ) (os : List (ℕ × ℕ)) → has_order u v (posted x y os) ≡ true → ((x ≡ u) × (y ≡ v)) ⊎ (has_order u v os ≡ true)
-posted_cases x y u v os h =
-    elim (or_cases ((x == u) && (y == v)) (has_order u v os) (sym (order_posted x y u v os) ∙ h)) [
-      | inl m ↦ (let e = and_parts (x == u) (y == v) m in inl (eqb-true x u e.0, eqb-true y v e.1))
-      | inr m ↦ inr m
-    ]
 
 module _ (t : TaskShape) (s : Sheet) (x p a : ℕ) (f : IsFormed t s) (h : has (Out a) (cands s x p) ≡ true) where
   abbrev n : ℕ
@@ -147,7 +109,7 @@ module _ (t : TaskShape) (s : Sheet) (x p a : ℕ) (f : IsFormed t s) (h : has (
   all = with_new mid (brought t s a) x
 
   there : x < n
-  there = need_there s x p (Out a) h
+  there = cand_there s x p (Out a) h
 
   adds_here : (y q : ℕ) → has (Out a) (cands s y q) ≡ true → (a < length t.actions) × Adds t (Act a) q
   adds_here y q k = f.supply y q (Out a) k
@@ -167,10 +129,10 @@ module _ (t : TaskShape) (s : Sheet) (x p a : ℕ) (f : IsFormed t s) (h : has (
   mid_atoms : (y : ℕ) → map (λ (m : Need). m.atom) (token_at mid y).lists ≡ map (λ (m : Need). m.atom) (token_at s y).lists
   mid_atoms y =
       atoms_with_list (with_offers s a n) x p (λ cs. Tok n ∷ []) y
-      ∙ (ap (λ (z : Token). map (λ (m : Need). m.atom) z.lists) (token_offered s a n y) ∙ atoms_offered a n (token_at s y).lists)
+      ∙ (ap (λ (z : Token). map (λ (m : Need). m.atom) z.lists) (token_offered s a n y) ∙ offered_atoms a n (token_at s y).lists)
 
   offers_cands : (y q : ℕ) → cands (with_offers s a n) y q ≡ beside a n (cands s y q)
-  offers_cands y q = ap (λ (z : Token). list_for q z.lists) (token_offered s a n y) ∙ offers_list a n q (token_at s y).lists
+  offers_cands y q = ap (λ (z : Token). list_for q z.lists) (token_offered s a n y) ∙ offer_list a n q (token_at s y).lists
 
   -- the list is the old one with the offer, or it is the named one
   mid_cands : (y q : ℕ) → (cands mid y q ≡ beside a n (cands s y q)) ⊎ ((y ≡ x) × (q ≡ p) × (cands mid y q ≡ Tok n ∷ []))

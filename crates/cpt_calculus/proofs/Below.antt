@@ -1,25 +1,22 @@
 -- what lies below a sheet, by what is read of it
-use Rattle.std.proofs.Common.{◌≡◌, ◌≢◌, ℕ, suc, zero, ◌+◌, ◌≤◌, ◌<◌, List, [], ◌∷◌, Bool, true, false, ◌||◌, ◌&&◌, ◌==◌, if◌then◌else◌, Some, None, slice_get, unwrap_or, length, get_or, refl, sym, ◌∙◌, ap, subst, arith, inl, inr, ◌⊎◌}
-use Rattle.std.specs.List.{All, AllZip, AllByRecursion as ByRecursion, find, list_any}
+use Rattle.std.proofs.Common.{◌≡◌, ◌≢◌, ℕ, suc, zero, ◌≤◌, ◌<◌, List, [], ◌∷◌, Bool, true, false, ◌||◌, ◌&&◌, ◌==◌, if◌then◌else◌, Some, slice_get, unwrap_or, length, refl, sym, ◌∙◌, ap, subst, arith, inl, inr, ◌⊎◌}
+use Rattle.std.specs.List.{AllZip, AllByRecursion as ByRecursion, find}
 use Rattle.std.specs.Option.{option_map_or}
-use Rattle.std.proofs.lemmas.Bool.{cases_lt, cases_Bool, both_ways, or_cases, or_left, or_right, and_parts, eqb-true}
-use Rattle.std.proofs.lemmas.List.Elements.{recursion_from_All, AllZip-get_or, length_all_zip}
-use Rattle.cpt_task.specs.declared.span.Span.{Span}
-use Rattle.cpt_task.specs.declared.span.Span.TheVariants.{At, Never}
+use Rattle.std.proofs.lemmas.Bool.{cases_lt, or_cases, or_left, or_right, and_parts, and_from, eqb-true, eq-eqb}
+use Rattle.std.proofs.lemmas.List.Elements.{recursion_from_All}
 use Rattle.cpt_tables.specs.Spans.{◌≤ˢ◌}
-use Rattle.cpt_tables.proofs.SpanLemmas.{le_refl, le_trans}
+use Rattle.cpt_tables.proofs.SpanLemmas.{le_refl}
 use Rattle.cpt_sheet.specs.declared.data.Cand.{Cand}
 use Rattle.cpt_sheet.specs.declared.data.Cand.TheVariants.{Tok, Out}
-use Rattle.cpt_sheet.specs.declared.data.Kind.{Kind}
 use Rattle.cpt_sheet.specs.declared.data.Interval.{Interval}
 use Rattle.cpt_sheet.specs.declared.data.Need.{Need}
 use Rattle.cpt_sheet.specs.declared.data.Token.{Token}
 use Rattle.cpt_sheet.specs.declared.data.Sheet.{Sheet}
-use Rattle.cpt_sheet.specs.View.{lo, hi, kind_of, cands, has_need, before, has, has_atom, list_for, span_of, token_at, no_token, no_span, has_order, pair_lt}
+use Rattle.cpt_sheet.specs.View.{lo, hi, kind_of, cands, has_need, has_atom, list_for, span_of, token_at, no_token, no_span, has_order, pair_lt}
 use Rattle.cpt_sheet.specs.Edits.{with_order, posted}
 use Rattle.cpt_sheet.specs.Live.{IsLive, IsLiveToken}
 use Rattle.cpt_sheet.specs.Below.{Part, IntervalBelow, NeedBelow, TokenBelow, IsBelowSheet}
-use Rattle.cpt_sheet.specs.Below.Part.{done, skip}
+use Rattle.cpt_sheet.specs.Below.Part.{done}
 use Rattle.cpt_sheet.proofs.FormedLemmas.{at_past}
 use Rattle.cpt_calculus.proofs.Zips.{zip_refl, zip_at}
 use Rattle.cpt_calculus.proofs.Parts.{Part-refl}
@@ -131,3 +128,18 @@ order_posted x y u v os = go (has_order x y os) refl
     go : (t : Bool) → has_order x y os ≡ t → has_order u v (if t then os else with_order x y os) ≡ (((x == u) && (y == v)) || has_order u v os)
     go true h = stands_already x y u v os h ((x == u) && (y == v)) refl
     go false h = order_with x y u v os
+
+-- posting keeps orders
+pub posted_more : (x y u v : ℕ) (os : List (ℕ × ℕ)) → has_order u v os ≡ true → has_order u v (posted x y os) ≡ true
+posted_more x y u v os h = order_posted x y u v os ∙ or_right ((x == u) && (y == v)) (has_order u v os) h
+
+pub posted_here : (x y : ℕ) (os : List (ℕ × ℕ)) → has_order x y (posted x y os) ≡ true
+posted_here x y os = order_posted x y x y os ∙ or_left ((x == x) && (y == y)) (has_order x y os) (and_from (x == x) (y == y) (eq-eqb x x refl) (eq-eqb y y refl))
+
+-- an order that stands after one was posted is that one or an old one
+pub posted_cases : (x y u v : ℕ) (os : List (ℕ × ℕ)) → has_order u v (posted x y os) ≡ true → ((x ≡ u) × (y ≡ v)) ⊎ (has_order u v os ≡ true)
+posted_cases x y u v os h =
+    elim (or_cases ((x == u) && (y == v)) (has_order u v os) (sym (order_posted x y u v os) ∙ h)) [
+      | inl m ↦ (let k = and_parts (x == u) (y == v) m in inl (eqb-true x u k.0, eqb-true y v k.1))
+      | inr m ↦ inr m
+    ]

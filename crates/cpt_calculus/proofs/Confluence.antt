@@ -1,7 +1,7 @@
 -- legal steps that end closed end in the same sheet
-use Rattle.std.proofs.Common.{◌≡◌, ◌≢◌, ℕ, ◌+◌, ◌-◌, ◌≤◌, ◌<◌, List, [], ◌∷◌, Bool, true, false, ◌||◌, ◌&&◌, ◌==◌, if◌then◌else◌, length, get_or, refl, sym, ◌∙◌, ap, subst, arith, inl, inr, ◌⊎◌, Some, None, Option, Contains}
+use Rattle.std.proofs.Common.{◌≡◌, ◌≢◌, ℕ, ◌≤◌, ◌<◌, List, [], ◌∷◌, Bool, true, false, ◌&&◌, ◌==◌, if◌then◌else◌, get_or, refl, sym, ◌∙◌, ap, subst, arith, inl, inr, Some, None, Option}
 use Rattle.std.specs.List.{All, AllZip}
-use Rattle.std.proofs.lemmas.Bool.{false_from_ne_true, true_from_ne_false, cases_Bool, cases_lt, both_ways, or_cases, or_left, or_right, and_parts, eqb-true}
+use Rattle.std.proofs.lemmas.Bool.{false_from_ne_true, true_from_ne_false, or_cases, or_right, and_parts, eqb-true}
 use Rattle.std.proofs.lemmas.List.Elements.{AllZip-get_or, length_all_zip, All-contains}
 use Rattle.cpt_task.specs.declared.span.Span.{Span}
 use Rattle.cpt_task.specs.declared.span.Span.TheVariants.{At, Never}
@@ -19,15 +19,15 @@ use Rattle.cpt_sheet.specs.declared.data.Sheet.{Sheet}
 use Rattle.cpt_sheet.specs.declared.data.Step.{Step}
 use Rattle.cpt_sheet.specs.declared.data.Change.{Change}
 use Rattle.cpt_sheet.specs.declared.data.Change.TheVariants.{Raise, Lower, Take, Post}
-use Rattle.cpt_sheet.specs.View.{lo, hi, span_of, kind_of, cands, has_need, before, has, has_order, has_atom, list_for, token_at, no_token, no_span}
-use Rattle.cpt_sheet.specs.Edits.{changed, with_span, with_token, with_list, without, revised, posted, moment_or}
+use Rattle.cpt_sheet.specs.View.{lo, hi, span_of, before, has, list_for, token_at, no_token, no_span}
+use Rattle.cpt_sheet.specs.Edits.{changed, with_span, with_token, without, revised, moment_or}
 use Rattle.cpt_sheet.specs.Live.{IsLive, IsLiveToken, IsDead, IsDeadToken}
 use Rattle.cpt_sheet.specs.Formed.{IsFormed}
 use Rattle.cpt_sheet.specs.Below.{Part, IntervalBelow, NeedBelow, TokenBelow, IsBelowSheet}
-use Rattle.cpt_calculus.specs.Rules.{IsLegal, Moves, change_of, narrowed, is_of}
-use Rattle.cpt_calculus.specs.Closing.{Leads, IsClosed, IsEnd, IsClosure, HasNoClosure, ClosesTo}
-use Rattle.cpt_calculus.proofs.Parts.{Part-refl, Part-trans, Part-without, Part-kept, Part-nil, Part-full, Part-length}
-use Rattle.cpt_calculus.proofs.Zips.{zip_refl, zip_trans, zip_antisym, zip_at, zip_set, zip_set_right}
+use Rattle.cpt_calculus.specs.Rules.{Moves, change_of, narrowed}
+use Rattle.cpt_calculus.specs.Closing.{Leads, IsClosed, ClosesTo}
+use Rattle.cpt_calculus.proofs.Parts.{Part-trans, Part-without, Part-kept, Part-nil, Part-full, Part-length}
+use Rattle.cpt_calculus.proofs.Zips.{zip_refl, zip_trans, zip_antisym, zip_set, zip_set_right}
 use Rattle.cpt_calculus.proofs.Orders.{orders_same}
 use Rattle.cpt_calculus.proofs.Below.{interval_refl, need_refl, token_refl, list_cons, token_below, span_below, order_posted}
 use Rattle.cpt_calculus.proofs.Monotone.{step_mono, same_change}

@@ -1,5 +1,5 @@
 -- an order inserted at its place
-use Rattle.std.proofs.Common.{◌≡◌, ℕ, suc, zero, ◌+◌, ◌≤◌, ◌<◌, List, [], ◌∷◌, ◌++◌, Bool, true, false, if◌then◌else◌, length, get_or, refl, sym, ◌∙◌, ap, subst, arith}
+use Rattle.std.proofs.Common.{◌≡◌, ℕ, suc, zero, ◌<◌, List, [], ◌∷◌, true, false, if◌then◌else◌, length, get_or, refl, sym, ap, subst, arith}
 use Rattle.std.specs.Prelude.{insert}
 use Rattle.cpt_sheet.specs.Edits.{with_order}
 use Rattle.cpt_sheet.specs.View.{pair_lt}

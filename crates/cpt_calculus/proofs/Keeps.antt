@@ -1,6 +1,6 @@
 -- steps keep a sheet formed
-use Rattle.std.proofs.Common.{◌≡◌, ◌≢◌, ℕ, ◌+◌, ◌≤◌, ◌<◌, List, [], ◌∷◌, Bool, true, false, ◌||◌, ◌&&◌, ◌==◌, if◌then◌else◌, zero, suc, lit≤, length, map, Contains, refl, sym, ◌∙◌, ap, subst, arith, inl, inr, ◌⊎◌}
-use Rattle.std.proofs.lemmas.Bool.{cases_lt, cases_Bool, or_cases, or_left, or_right, or_parts, and_parts, both_ways, eqb-true, eq-eqb}
+use Rattle.std.proofs.Common.{◌≡◌, ◌≢◌, ℕ, ◌≤◌, ◌<◌, List, [], ◌∷◌, Bool, true, false, ◌&&◌, ◌==◌, if◌then◌else◌, zero, suc, lit≤, length, map, refl, sym, ◌∙◌, ap, subst, arith, inl, inr}
+use Rattle.std.proofs.lemmas.Bool.{cases_lt, or_cases, or_right, and_parts, eqb-true}
 use Rattle.cpt_task.specs.declared.span.Span.{Span}
 use Rattle.cpt_task.specs.declared.span.Span.TheVariants.{At, Never}
 use Rattle.cpt_task.specs.Shape.{TaskShape}
@@ -16,16 +16,17 @@ use Rattle.cpt_sheet.specs.declared.data.Sheet.{Sheet}
 use Rattle.cpt_sheet.specs.declared.data.Step.{Step}
 use Rattle.cpt_sheet.specs.declared.data.Step.TheVariants.{R1, R2, R3, R4, R5, R6, R7, R8, R9After, R9Ahead, R10, R11After, R11Ahead, R12After, R12Ahead, R13}
 use Rattle.cpt_sheet.specs.Roles.{Adds, Deletes, Clash, needs_of}
-use Rattle.cpt_sheet.specs.View.{token_at, no_token, lo, hi, span_of, kind_of, cands, has_need, before, has, has_order, list_for, has_atom, same}
-use Rattle.cpt_sheet.specs.Edits.{with_span, with_list, with_posted, without, revised, posted, with_order, changed, moment_or}
-use Rattle.cpt_sheet.specs.Formed.{IsFormed, IsActionOf, CanAdd, Precedes, IsAscending, IsIncreasing, IsPlaced}
+use Rattle.cpt_sheet.specs.View.{token_at, no_token, lo, hi, span_of, kind_of, cands, has_need, before, has, has_order, list_for, same}
+use Rattle.cpt_sheet.specs.Edits.{with_span, with_list, with_posted, without, revised, with_order, changed, moment_or}
+use Rattle.cpt_sheet.specs.Formed.{IsFormed, IsActionOf, CanAdd, IsAscending, IsIncreasing, IsPlaced}
 use Rattle.cpt_sheet.proofs.FormedLemmas.{at_past, lo_below}
 use Rattle.cpt_tables.proofs.SpanLemmas.{below_more}
-use Rattle.cpt_sheet.specs.declared.data.Change.TheVariants.{Raise, Lower, Take, Post}
+use Rattle.cpt_sheet.specs.declared.data.Change.TheVariants.{Raise, Lower, Take}
 use Rattle.cpt_sheet.specs.declared.data.Token.{Token}
 use Rattle.cpt_calculus.specs.Rules.{IsToken, IsThreatOf, only, Allowed, Moves, IsLegal, change_of, narrowed}
 use Rattle.cpt_calculus.proofs.Orders.{increasing_with}
-use Rattle.cpt_calculus.proofs.Parts.{same_self, Part-has, Part-without}
+use Rattle.cpt_calculus.proofs.Reading.{need_there, nothing_in, one_listed}
+use Rattle.cpt_calculus.proofs.Parts.{Part-has, Part-without}
 use Rattle.cpt_calculus.proofs.Below.{order_posted}
 use Rattle.cpt_calculus.proofs.Views.{span_with, kind_with_span, lists_with_span, tokens_with_span, outs_with_span, orders_with_span, bound_with_span, kind_with_list, span_with_list, atoms_with_list, cands_with_list, count_with}
 
@@ -135,24 +136,10 @@ posted_formed t s x y f h =
     go true e = f.increasing
     go false e = increasing_with x y s.orders e f.increasing
 
--- tokens that are there
-need_there : (s : Sheet) (x p : ℕ) → has_need s x p ≡ true → x < length s.tokens
-need_there s x p h =
-    elim (cases_lt x (length s.tokens)) [
-      | inl l ↦ l
-      | inr m ↦ absurd (let e : has_atom p no_token.lists ≡ true = subst (λ t. has_atom p t.lists ≡ true) (at_past s.tokens no_token x m) h in cc)
-    ]
-
 -- a kind that deletes an atom is an action's
 deletes_act : (t : TaskShape) (k : Kind) (p : ℕ) → Deletes t k p → (a : ℕ) × (k ≡ Act a)
 deletes_act t Start p h = absurd (nothing_in p h)
-  where
-    nothing_in : (q : ℕ) → Contains [] q → ⊥
-    nothing_in q e = let l = e.1 in omega arith
 deletes_act t End p h = absurd (nothing_in p h)
-  where
-    nothing_in : (q : ℕ) → Contains [] q → ⊥
-    nothing_in q e = let l = e.1 in omega arith
 deletes_act t (Act a) p h = (a, refl)
 
 clash_first : (t : TaskShape) (j k : Kind) → Clash t j k → (a : ℕ) × (j ≡ Act a)
@@ -186,10 +173,6 @@ act_token t s (suc (suc x)) a f e =
 deleting_token : (t : TaskShape) (s : Sheet) (d p : ℕ) → IsFormed t s → Deletes t (kind_of s (Tok d)) p → IsActionToken s d
 deleting_token t s d p f h = let k = deletes_act t (kind_of s (Tok d)) p h in act_token t s d k.0 f k.1
 
--- the one candidate of a list
-lone_listed : (s : Sheet) (x p y : ℕ) → IsToken (cands s x p) y → has (Tok y) (cands s x p) ≡ true
-lone_listed s x p y e = subst (λ (l : List Cand). has (Tok y) l ≡ true) (sym e) (or_left (same (Tok y) (Tok y)) false (same_self (Tok y)))
-
 end_adds_nothing : (t : TaskShape) (p : ℕ) → Adds t End p → ⊥
 end_adds_nothing t p e = let l = e.1 in omega arith
 
@@ -219,7 +202,7 @@ module _ (t : TaskShape) (s : Sheet) (f : IsFormed t s) where
   take_any : (x p : ℕ) (c : Cand) → IsFormed t (changed s (Take x p c))
   take_any x p c = list_formed t s x p (without c) f (λ d k. Part-has d (Part-without c (cands s x p)) k) (ascending_without c (cands s x p) (f.ascending x p))
 
-  place_clash : (x y : ℕ) → x ≢ y → Clash t (kind_of s (Tok x)) (kind_of s (Tok y)) → IsPlaced s x y
+  pub place_clash : (x y : ℕ) → x ≢ y → Clash t (kind_of s (Tok x)) (kind_of s (Tok y)) → IsPlaced s x y
   place_clash x y n h =
       let j = clash_first t (kind_of s (Tok x)) (kind_of s (Tok y)) h in
       let k = clash_second t (kind_of s (Tok x)) (kind_of s (Tok y)) h in
@@ -227,20 +210,20 @@ module _ (t : TaskShape) (s : Sheet) (f : IsFormed t s) where
       let b = act_token t s y k.0 f k.1 in
       record { first = a.there; second = b.there; different = n; forward = λ e. let l = a.behind in let q = e.0 in omega arith }
 
-  place_lone : (x p y : ℕ) → has_need s x p ≡ true → IsToken (cands s x p) y → IsPlaced s y x
+  pub place_lone : (x p y : ℕ) → has_need s x p ≡ true → IsToken (cands s x p) y → IsPlaced s y x
   place_lone x p y n e =
-      let c = f.supply x p (Tok y) (lone_listed s x p y e) in
+      let c = f.supply x p (Tok y) (one_listed s x p y e) in
       record { first = c.0; second = need_there s x p n; different = c.1; forward = λ q. adder_is_not_end t s y p f c.2 q.0 }
 
-  place_after : (x p d y : ℕ) → IsThreatOf t s x p d y → IsPlaced s x d
+  pub place_after : (x p d y : ℕ) → IsThreatOf t s x p d y → IsPlaced s x d
   place_after x p d y h =
       let a = deleting_token t s d p f h.deletes in
       record { first = need_there s x p h.need; second = a.there; different = λ e. h.other (sym e); forward = λ e. let l = a.behind in let q = e.1 in omega arith }
 
-  place_ahead : (x p d y : ℕ) → IsThreatOf t s x p d y → IsPlaced s d y
+  pub place_ahead : (x p d y : ℕ) → IsThreatOf t s x p d y → IsPlaced s d y
   place_ahead x p d y h =
       let a = deleting_token t s d p f h.deletes in
-      let c = f.supply x p (Tok y) (lone_listed s x p y h.one) in
+      let c = f.supply x p (Tok y) (one_listed s x p y h.one) in
       record { first = a.there; second = c.0; different = h.different; forward = λ e. let l = a.behind in let q = e.0 in omega arith }
 
 -- a legal step keeps a sheet formed

@@ -2,12 +2,15 @@ pub mod Adders
 pub mod ApplyFormed
 pub mod Behind
 pub mod Below
+pub mod Brings
 pub mod Confluence
 pub mod Inserts
 pub mod Keeps
+pub mod Members
 pub mod Monotone
 pub mod Orders
 pub mod Parts
+pub mod Reading
 pub mod RootFormed
 pub mod Snocs
 pub mod Stays

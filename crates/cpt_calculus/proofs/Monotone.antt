@@ -1,17 +1,16 @@
 -- what is allowed at a sheet is allowed, or changes nothing, at each live sheet below
-use Rattle.std.proofs.Common.{◌≡◌, ◌≢◌, ℕ, ◌-◌, ◌≤◌, ◌<◌, List, [], ◌∷◌, Bool, true, false, length, get_or, refl, sym, ◌∙◌, ap, subst, arith, inl, inr, ◌⊎◌}
-use Rattle.std.specs.List.{All, AllZip, AllByRecursion as ByRecursion}
-use Rattle.std.proofs.lemmas.Bool.{false_from_ne_true, cases_Bool, cases_lt, both_ways}
+use Rattle.std.proofs.Common.{◌≡◌, ℕ, ◌≤◌, ◌<◌, List, true, get_or, refl, sym, ◌∙◌, ap, subst, arith, inl, inr, ◌⊎◌}
+use Rattle.std.specs.List.{All, AllByRecursion as ByRecursion}
+use Rattle.std.proofs.lemmas.Bool.{false_from_ne_true, cases_Bool, both_ways}
 use Rattle.std.proofs.lemmas.List.Elements.{recursion_from_All, All-from_recursion, AllZip-get_or, length_all_zip}
 use Rattle.cpt_task.specs.declared.span.Span.{Span}
 use Rattle.cpt_task.specs.declared.span.Span.TheVariants.{At, Never}
 use Rattle.cpt_task.specs.Shape.{TaskShape}
 use Rattle.cpt_tables.specs.declared.tables.Tables.{Tables}
-use Rattle.cpt_tables.specs.Spans.{◌≤ˢ◌, ◌<ˢ◌, ◌+ˢ◌}
-use Rattle.cpt_tables.proofs.SpanLemmas.{le_refl, le_trans, le_cases, lt_not_le, le_lt, add_mono}
+use Rattle.cpt_tables.specs.Spans.{◌≤ˢ◌, ◌+ˢ◌}
+use Rattle.cpt_tables.proofs.SpanLemmas.{le_trans, le_cases, lt_not_le, add_mono}
 use Rattle.cpt_sheet.specs.declared.data.Cand.{Cand}
 use Rattle.cpt_sheet.specs.declared.data.Cand.TheVariants.{Tok, Out}
-use Rattle.cpt_sheet.specs.declared.data.Kind.{Kind}
 use Rattle.cpt_sheet.specs.declared.data.Kind.TheVariants.{Act}
 use Rattle.cpt_sheet.specs.declared.data.Token.{Token}
 use Rattle.cpt_sheet.specs.declared.data.Sheet.{Sheet}
@@ -22,12 +21,12 @@ use Rattle.cpt_sheet.specs.declared.data.Change.TheVariants.{Raise, Lower, Take,
 use Rattle.cpt_sheet.specs.Roles.{Adds, Deletes, Clash}
 use Rattle.cpt_sheet.specs.View.{lo, hi, kind_of, cands, has_need, before, has, span_of}
 use Rattle.cpt_sheet.specs.Live.{IsLive, IsOpen, IsShut}
-use Rattle.cpt_sheet.specs.Gaps.{gap, back, arrival, deadline, ordered, CanPrecede, IsStuck, DeleteEachOther, Exclude, IsImpossibleBeside}
+use Rattle.cpt_sheet.specs.Gaps.{gap, back, arrival, deadline, ordered, CanPrecede, Exclude, IsImpossibleBeside}
 use Rattle.cpt_sheet.specs.Below.{Part, TokenBelow, IsBelowSheet}
 use Rattle.cpt_sheet.specs.Below.Part.{done, skip, keep}
-use Rattle.cpt_calculus.specs.Rules.{IsToken, only, IsStep1, IsStep2, IsStep3, IsStep4, IsListed, IsOtherNeed, IsStep5, IsStep6, IsStep7, IsStep8, IsThreatOf, IsStep9After, IsStep9Ahead, IsBeforeToken, IsBeforeTokens, IsBeforeOut, IsBeforeOuts, IsStep10, IsOutsideThreat, ComesAfter, ComesAhead, IsStep11After, IsStep11Ahead, IsStep12After, IsStep12Ahead, IsNoneBeside, IsStep13, Allowed, change_of, Moves, IsLegal}
+use Rattle.cpt_calculus.specs.Rules.{IsToken, only, IsListed, IsThreatOf, IsBeforeToken, IsBeforeTokens, IsBeforeOuts, IsOutsideThreat, ComesAfter, Allowed, change_of, Moves, IsLegal}
 use Rattle.cpt_calculus.proofs.Parts.{Part-one}
-use Rattle.cpt_calculus.proofs.Below.{token_below, kinds, los, his, span_below, parts, same_need, live_lists}
+use Rattle.cpt_calculus.proofs.Below.{kinds, los, his, parts, same_need, live_lists}
 
 back_mono : (h k : ℕ) (g : Span) → h ≤ k → back h g ≤ back k g
 back_mono h k (At g) e = omega arith

@@ -1,7 +1,6 @@
 -- laws of parts of candidate lists
-use Rattle.std.proofs.Common.{◌≡◌, ◌≢◌, ℕ, ◌+◌, ◌≤◌, ◌<◌, List, [], ◌∷◌, Bool, true, false, ◌||◌, ◌==◌, if◌then◌else◌, suc, zero, slice_get, length, refl, sym, ◌∙◌, ap, subst, arith, inl, inr, ◌⊎◌}
-use Rattle.std.proofs.lemmas.Bool.{both_ways, or_cases, or_from, or_left, or_right, or_parts, cases_Bool, eqb-true, eq-eqb}
-use Rattle.std.proofs.lemmas.Grind.{common_steps}
+use Rattle.std.proofs.Common.{◌≡◌, ◌≢◌, ℕ, ◌≤◌, ◌<◌, List, [], ◌∷◌, Bool, true, false, ◌||◌, if◌then◌else◌, suc, zero, slice_get, length, refl, sym, ◌∙◌, ap, subst, arith, inl, inr}
+use Rattle.std.proofs.lemmas.Bool.{or_cases, or_left, or_right, or_parts, eqb-true, eq-eqb}
 use Rattle.cpt_sheet.specs.declared.data.Cand.{Cand}
 use Rattle.cpt_sheet.specs.declared.data.Cand.TheVariants.{Tok, Out}
 use Rattle.std.specs.Prelude.{IsSomeAnd, remove}
@@ -92,3 +91,12 @@ pub none_there : (c : Cand) (xs : List Cand) → ((k : ℕ) → k < length xs �
 none_there c [] h = refl
 none_there c (x ∷ xs) h =
     subst (λ t. (x ∷ xs) ≡ (if t then xs else x ∷ without c xs)) (h 0 (omega arith)) (ap (λ z. x ∷ z) (none_there c xs (λ k j. h (suc k) (omega arith))))
+
+-- another candidate stays
+pub has_without : (c d : Cand) (l : List Cand) → has d l ≡ true → (d ≡ c → ⊥) → has d (without c l) ≡ true
+has_without c d [] h n = cc
+has_without c d (x ∷ l) h n = go (same x c) refl h (λ k. has_without c d l k n)
+  where
+    go : (b : Bool) → same x c ≡ b → (same x d || has d l) ≡ true → (has d l ≡ true → has d (without c l) ≡ true) → has d (if b then l else x ∷ without c l) ≡ true
+    go true e k ih = elim (or_cases (same x d) (has d l) k) [ inl m ↦ absurd (n (sym (same_is x d m) ∙ same_is x c e)) | inr m ↦ m ]
+    go false e k ih = elim (or_cases (same x d) (has d l) k) [ inl m ↦ or_left (same x d) (has d (without c l)) m | inr m ↦ or_right (same x d) (has d (without c l)) (ih m) ]

@@ -1,5 +1,5 @@
 -- the root sheet is formed
-use Rattle.std.proofs.Common.{◌≡◌, ◌≢◌, ℕ, zero, suc, ◌+◌, ◌-◌, ◌≤◌, ◌<◌, List, [], ◌∷◌, ◌++◌, Bool, true, false, ◌||◌, ◌&&◌, ◌==◌, nat_le, if◌then◌else◌, length, map, slice_get, unwrap_or, refl, sym, ◌∙◌, ap, subst, arith, lit≤, inl, inr, ◌⊎◌, length-append}
+use Rattle.std.proofs.Common.{◌≡◌, ℕ, zero, suc, ◌-◌, ◌≤◌, ◌<◌, [], ◌∷◌, Bool, true, false, ◌&&◌, ◌==◌, nat_le, if◌then◌else◌, length, map, slice_get, unwrap_or, refl, sym, subst, arith, lit≤, inl, inr, length-append}
 use Rattle.std.proofs.Common.{Result, Ok, Err}
 use Rattle.std.specs.Prelude.{IfOk, OnOk}
 use Rattle.cpt_task.specs.declared.memory.Memory.{Memory}
@@ -14,16 +14,14 @@ use Rattle.cpt_tables.specs.Admissible.{nth_action}
 use Rattle.cpt_tables.proofs.SpanLemmas.{below_more}
 use Rattle.cpt_sheet.specs.declared.data.Cand.{Cand}
 use Rattle.cpt_sheet.specs.declared.data.Cand.TheVariants.{Tok, Out}
-use Rattle.cpt_sheet.specs.declared.data.Kind.{Kind}
-use Rattle.cpt_sheet.specs.declared.data.Kind.TheVariants.{Start, End, Act}
+use Rattle.cpt_sheet.specs.declared.data.Kind.TheVariants.{End, Act}
 use Rattle.cpt_sheet.specs.declared.data.Interval.{Interval}
 use Rattle.cpt_sheet.specs.declared.data.Sheet.{Sheet}
 use Rattle.cpt_sheet.specs.Roles.{Adds, needs_of}
-use Rattle.cpt_sheet.specs.View.{kind_of, token_at, no_token, no_span, has, has_order, before, cands, list_for, lo, hi}
+use Rattle.cpt_sheet.specs.View.{kind_of, token_at, no_span, has, before, cands, lo, hi}
 use Rattle.cpt_sheet.specs.Gaps.{FitsTask, gap}
-use Rattle.cpt_sheet.specs.Formed.{IsFormed, IsActionOf, CanAdd, IsAscending, IsPlaced}
+use Rattle.cpt_sheet.specs.Formed.{IsFormed, CanAdd, IsAscending}
 use Rattle.cpt_sheet.proofs.GapLemmas.{set_below, needs_within}
-use Rattle.cpt_calculus.specs.Decisions.{need_for}
 use Rattle.cpt_calculus.specs.Root.{window, out_at_root, outs_at_root, bare_root, root_of}
 use Rattle.cpt_calculus.proofs.Adders.{IsAdderIn, made_adder, made_ascending, atoms_made}
 use Rattle.cpt_calculus.proofs.Snocs.{SnocAt, snoc_at}

@@ -1,5 +1,5 @@
 -- what stands at a place of a list with one element more
-use Rattle.std.proofs.Common.{◌≡◌, ℕ, zero, suc, ◌+◌, ◌≤◌, ◌<◌, List, [], ◌∷◌, ◌++◌, length, slice_get, unwrap_or, refl, arith}
+use Rattle.std.proofs.Common.{◌≡◌, ℕ, zero, suc, ◌<◌, List, [], ◌∷◌, ◌++◌, length, slice_get, unwrap_or, refl, arith}
 
 pub data SnocAt {X : Type 0} (xs : List X) (x d : X) (i : ℕ) (v : X) : Type 0 where
   old : i < length xs → v ≡ unwrap_or (slice_get xs i) d → SnocAt xs x d i v

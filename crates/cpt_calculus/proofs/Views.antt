@@ -1,16 +1,17 @@
 -- what is read of a sheet after a change
-use Rattle.std.proofs.Common.{◌≡◌, ◌≢◌, ℕ, ◌+◌, ◌≤◌, ◌<◌, List, [], ◌∷◌, Bool, true, false, ◌||◌, ◌&&◌, ◌==◌, if◌then◌else◌, length, get_or, set, map, refl, sym, ◌∙◌, ap, subst, arith, inl, inr, ◌⊎◌, get_or-set_same, get_or-set_other, length-set, slice_get, unwrap_or}
+use Rattle.std.proofs.Common.{◌≡◌, ℕ, ◌≤◌, List, [], ◌∷◌, Bool, true, false, ◌||◌, ◌==◌, if◌then◌else◌, length, get_or, set, map, refl, sym, ◌∙◌, ap, subst, inl, inr, ◌⊎◌, get_or-set_same, get_or-set_other, length-set, slice_get, unwrap_or}
+use Rattle.std.specs.List.{list_any}
 use Rattle.std.proofs.lemmas.Option.{unwrap_or-slice_get}
 use Rattle.std.proofs.Math.ListN.{get_or-eq_default}
-use Rattle.std.proofs.lemmas.Bool.{cases_eq, cases_lt, cases_Bool, or_left, or_right, or_cases, eqb-true}
+use Rattle.std.proofs.lemmas.Bool.{cases_eq, cases_lt, cases_Bool, eqb-true}
 use Rattle.cpt_sheet.specs.declared.data.Cand.{Cand}
 use Rattle.cpt_sheet.specs.declared.data.Cand.TheVariants.{Tok, Out}
 use Rattle.cpt_sheet.specs.declared.data.Interval.{Interval}
 use Rattle.cpt_sheet.specs.declared.data.Need.{Need}
 use Rattle.cpt_sheet.specs.declared.data.Token.{Token}
 use Rattle.cpt_sheet.specs.declared.data.Sheet.{Sheet}
-use Rattle.cpt_sheet.specs.View.{no_span, no_token, token_at, span_of, kind_of, cands, has_need, list_for, has_atom, has, same}
-use Rattle.cpt_sheet.specs.Edits.{with_token, with_span, with_list, without, revised}
+use Rattle.cpt_sheet.specs.View.{no_span, no_token, token_at, span_of, kind_of, cands, has_need, list_for, has_atom}
+use Rattle.cpt_sheet.specs.Edits.{with_token, with_span, with_list, revised}
 use Rattle.cpt_calculus.proofs.Below.{list_cons}
 
 at_set : {X : Type 0} (xs : List X) (i k : ℕ) (v d : X) → (get_or (set xs i v) k d ≡ get_or xs k d) ⊎ ((k ≡ i) × (get_or (set xs i v) k d ≡ v))
@@ -94,6 +95,20 @@ module _ (s : Sheet) (x p : ℕ) (f : List Cand → List Cand) where
       atoms_revised (n ∷ ns) =
           elim (n.atom == p) as (λ t. map (λ (n : Need). n.atom) (if t then (record n { cands = f n.cands } ∷ ns) else (n ∷ revised p f ns)) ≡ (n.atom ∷ map (λ (n : Need). n.atom) ns))
           [ true ↦ refl | false ↦ ap (λ l. n.atom ∷ l) (atoms_revised ns) ]
+
+-- whether an atom is needed, from the atoms alone
+pub need_from_atoms : (q : ℕ) (ns ms : List Need) → map (λ (m : Need). m.atom) ns ≡ map (λ (m : Need). m.atom) ms → has_atom q ns ≡ has_atom q ms
+need_from_atoms q ns ms e = by_atoms ns ∙ (ap (λ l. list_any (λ a. a == q) l) e ∙ sym (by_atoms ms))
+  where
+    by_atoms : (l : List Need) → has_atom q l ≡ list_any (λ a. a == q) (map (λ (m : Need). m.atom) l)
+    by_atoms [] = refl
+    by_atoms (m ∷ l) = ap (λ b. (m.atom == q) || b) (by_atoms l)
+
+pub need_with_list : (s : Sheet) (x p : ℕ) (f : List Cand → List Cand) (y q : ℕ) → has_need (with_list s x p f) y q ≡ has_need s y q
+need_with_list s x p f y q = need_from_atoms q (token_at (with_list s x p f) y).lists (token_at s y).lists (atoms_with_list s x p f y)
+
+pub count_with_list : (s : Sheet) (x p : ℕ) (f : List Cand → List Cand) → length (with_list s x p f).tokens ≡ length s.tokens
+count_with_list s x p f = count_with s x (record (token_at s x) { lists = revised p f (token_at s x).lists })
 
 -- the list of an atom is the old one, or that of the changed atom
 abbrev Edited : ℕ → ℕ → (List Cand → List Cand) → List Cand → List Cand → Type 0

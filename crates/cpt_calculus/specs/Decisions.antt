@@ -1,24 +1,20 @@
-use Rattle.std.specs.Prelude.{◌≡◌, ℕ, zero, suc, ◌+◌, ◌&&◌, Bool, true, false, List, [], ◌∷◌, ◌++◌, length, map, if◌then◌else◌}
-use Rattle.cpt_task.specs.declared.span.Span.{Span}
-use Rattle.cpt_task.specs.declared.span.Span.TheVariants.{At, Never}
+use Rattle.std.specs.Prelude.{◌≡◌, ℕ, zero, suc, ◌&&◌, true, List, [], ◌∷◌, ◌++◌, length, map, if◌then◌else◌}
 use Rattle.cpt_task.specs.Shape.{TaskShape}
 use Rattle.cpt_task.specs.Timeline.{is_in}
 use Rattle.cpt_tables.specs.Admissible.{nth_action}
 use Rattle.cpt_sheet.specs.declared.data.Cand.{Cand}
 use Rattle.cpt_sheet.specs.declared.data.Cand.TheVariants.{Tok, Out}
-use Rattle.cpt_sheet.specs.declared.data.Kind.{Kind}
 use Rattle.cpt_sheet.specs.declared.data.Kind.TheVariants.{Act}
-use Rattle.cpt_sheet.specs.declared.data.Interval.{Interval}
 use Rattle.cpt_sheet.specs.declared.data.Need.{Need}
 use Rattle.cpt_sheet.specs.declared.data.Token.{Token}
 use Rattle.cpt_sheet.specs.declared.data.Sheet.{Sheet}
 use Rattle.cpt_sheet.specs.declared.data.Decision.{Decision}
 use Rattle.cpt_sheet.specs.declared.data.Decision.TheVariants.{Join, Bring, Before}
-use Rattle.cpt_sheet.specs.Roles.{needs_of, adds_of}
-use Rattle.cpt_sheet.specs.View.{token_at, span_of, kind_of, has, cands}
+use Rattle.cpt_sheet.specs.Roles.{adds_of}
+use Rattle.cpt_sheet.specs.View.{span_of, kind_of, has, cands}
 use Rattle.cpt_sheet.specs.Live.{is_open}
 use Rattle.cpt_sheet.specs.Formed.{IsPlaced}
-use Rattle.cpt_sheet.specs.Edits.{revised, posted, with_list, with_posted}
+use Rattle.cpt_sheet.specs.Edits.{posted, with_list, with_posted}
 
 -- the candidate stands in the named list, or the two are different tokens and not the end before the start
 abbrev pub Fits : Sheet → Decision → Type 0

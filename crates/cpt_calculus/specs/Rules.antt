@@ -1,15 +1,14 @@
 use Rattle.std.specs.Prelude.{◌≡◌, ◌≢◌, ℕ, ◌<◌, ◌==◌, Bool, true, false, List, [], ◌∷◌, length, All, Contains}
 use Rattle.std.specs.List.{list_any}
 use Rattle.cpt_task.specs.declared.span.Span.{Span}
-use Rattle.cpt_task.specs.declared.span.Span.TheVariants.{At, Never}
+use Rattle.cpt_task.specs.declared.span.Span.TheVariants.{At}
 use Rattle.cpt_task.specs.Shape.{TaskShape}
 use Rattle.cpt_tables.specs.declared.tables.Tables.{Tables}
 use Rattle.cpt_tables.specs.Spans.{◌≤ˢ◌, ◌<ˢ◌, ◌+ˢ◌, IsBelow}
 use Rattle.cpt_tables.specs.Admissible.{nth_action}
 use Rattle.cpt_sheet.specs.declared.data.Cand.{Cand}
 use Rattle.cpt_sheet.specs.declared.data.Cand.TheVariants.{Tok, Out}
-use Rattle.cpt_sheet.specs.declared.data.Kind.{Kind}
-use Rattle.cpt_sheet.specs.declared.data.Kind.TheVariants.{Start, End, Act}
+use Rattle.cpt_sheet.specs.declared.data.Kind.TheVariants.{Act}
 use Rattle.cpt_sheet.specs.declared.data.Sheet.{Sheet}
 use Rattle.cpt_sheet.specs.declared.data.Token.{Token}
 use Rattle.cpt_sheet.specs.declared.data.Step.{Step}

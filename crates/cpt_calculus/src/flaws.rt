@@ -10,7 +10,8 @@ use cpt_sheet::{Cand, Decision, Flaw, Sheet, clash, kind, list, stands};
 use cpt_task::{Memory, Task};
 use std::alloc::Global;
 
-fn is_threat(task: &Task, sheet: &Sheet, x: u32, p: u32, d: u32) -> bool
+/// Whether `d` deletes what one token supplies `x` with, and stands in order with neither that token nor `x`.
+pub fn is_threat(task: &Task, sheet: &Sheet, x: u32, p: u32, d: u32) -> bool
     ensures { MatchBool result (IsThreat task.now sheet.now x p d) (IsThreat task.now sheet.now x p d → ⊥) }
 {
     match threatened(task, sheet, x, p, d) {
@@ -19,14 +20,16 @@ fn is_threat(task: &Task, sheet: &Sheet, x: u32, p: u32, d: u32) -> bool
     }
 }
 
-fn is_open_need(sheet: &Sheet, x: u32, p: u32) -> bool
+/// Whether the list of `x` for `p` is neither empty nor one token.
+pub fn is_open_need(sheet: &Sheet, x: u32, p: u32) -> bool
     ensures { MatchBool result (IsOpenNeed sheet.now x p) (IsOpenNeed sheet.now x p → ⊥) }
 {
     let cands = list(sheet, x, p);
     !cands.is_empty() && one_token(cands).is_none()
 }
 
-fn is_clash(task: &Task, sheet: &Sheet, x: u32, y: u32) -> bool
+/// Whether `x` and the later `y` are action tokens that interfere, with no order between them.
+pub fn is_clash(task: &Task, sheet: &Sheet, x: u32, y: u32) -> bool
     ensures { MatchBool result (IsClash task.now sheet.now x y) (IsClash task.now sheet.now x y → ⊥) }
 {
     x < y

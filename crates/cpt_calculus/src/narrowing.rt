@@ -6,7 +6,7 @@ ghost use Rattle.cpt_sheet.specs.View.{span_of, hi, same, no_need, pair_lt};
 ghost use Rattle.cpt_calculus.specs.Closing.{StaysFormed};
 ghost use Rattle.cpt_calculus.specs.Rules.{narrowed};
 
-use crate::rules::change;
+use crate::rules::change_of;
 use cpt_sheet::{Cand, Change, Need, Sheet, Step, is_before, is_posted, is_same, span};
 use cpt_task::{List, Memory, Span};
 
@@ -153,6 +153,6 @@ pub fn narrow(sheet: &mut Sheet, step: &Step) -> Result<(), Memory>
     ensures formed { OnOk result (StaysFormed sheet.old step.now sheet.new) }
     ensures err { OnErr result (sheet.new ≡ sheet.old) }
 {
-    let change = change(sheet, *step);
+    let change = change_of(sheet, *step);
     make(sheet, change)
 }

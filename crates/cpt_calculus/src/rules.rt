@@ -12,8 +12,8 @@ ghost use Rattle.cpt_calculus.specs.Rules.{IsToken, only, IsTokenMoment, IsOutsi
 
 use cpt_sheet::{
     Cand, Change, Kind, Sheet, Step, Token, adds, arrives, can_precede, clash, deletes, gap,
-    is_dead, is_impossible_beside, is_listed, is_same, is_shut, kind, list, must_begin_by, needs,
-    needs_of, span, stands,
+    is_dead, is_impossible_beside, is_listed, is_same, is_shut, is_sooner, kind, list,
+    must_begin_by, needs, needs_of, span, stands,
 };
 use cpt_tables::{Tables, add_spans, exceeds};
 use cpt_task::{Span, Task};
@@ -46,7 +46,7 @@ fn is_no_later(a: Span, b: Span) -> bool
 }
 
 /// The one token of a list that is one token.
-pub(crate) fn one_token(list: &[Cand]) -> Option<u32>
+pub fn one_token(list: &[Cand]) -> Option<u32>
     ensures { MatchOption result ((y : ℕ) → IsToken list.now y → ⊥) (λ y. IsToken list.now y) }
 {
     match list {
@@ -55,7 +55,8 @@ pub(crate) fn one_token(list: &[Cand]) -> Option<u32>
     }
 }
 
-fn is_step1(task: &Task, tables: &Tables, sheet: &Sheet, x: u32, y: u32, v: Span) -> bool
+/// Whether the order `x` before `y` stands and `v` is no later than the arrival from `x` at `y`: rule 1.
+pub fn is_step1(task: &Task, tables: &Tables, sheet: &Sheet, x: u32, y: u32, v: Span) -> bool
     requires tables { FitsTask task.now tables.now }
     requires formed { IsFormed task.now sheet.now }
     ensures { MatchBool result (IsStep1 task.now tables.now sheet.now x y v) (IsStep1 task.now tables.now sheet.now x y v → ⊥) }
@@ -65,7 +66,8 @@ fn is_step1(task: &Task, tables: &Tables, sheet: &Sheet, x: u32, y: u32, v: Span
         && is_no_later(v, arrives(task, tables, sheet, Cand::Tok(x), Cand::Tok(y)))
 }
 
-fn is_step2(task: &Task, tables: &Tables, sheet: &Sheet, x: u32, y: u32, v: Span) -> bool
+/// Whether the order `x` before `y` stands and `v` is no earlier than the deadline of `x` before `y`: rule 2.
+pub fn is_step2(task: &Task, tables: &Tables, sheet: &Sheet, x: u32, y: u32, v: Span) -> bool
     requires tables { FitsTask task.now tables.now }
     ensures { MatchBool result (IsStep2 task.now tables.now sheet.now x y v) (IsStep2 task.now tables.now sheet.now x y v → ⊥) }
 {
@@ -76,7 +78,8 @@ fn is_step2(task: &Task, tables: &Tables, sheet: &Sheet, x: u32, y: u32, v: Span
         )
 }
 
-fn is_step3(task: &Task, tables: &Tables, sheet: &Sheet, x: u32, y: u32) -> bool
+/// Whether `x` and `y` are different action tokens that interfere, and `y` cannot precede `x`: rule 3.
+pub fn is_step3(task: &Task, tables: &Tables, sheet: &Sheet, x: u32, y: u32) -> bool
     requires tables { FitsTask task.now tables.now }
     requires formed { IsFormed task.now sheet.now }
     ensures { MatchBool result (IsStep3 task.now tables.now sheet.now x y) (IsStep3 task.now tables.now sheet.now x y → ⊥) }
@@ -106,7 +109,8 @@ fn is_before_each(
     true
 }
 
-fn is_step4(task: &Task, tables: &Tables, sheet: &Sheet, x: u32, p: u32, v: Span) -> bool
+/// Whether `v` is no later than the arrival at `x` from each candidate for `p`: rule 4.
+pub fn is_step4(task: &Task, tables: &Tables, sheet: &Sheet, x: u32, p: u32, v: Span) -> bool
     requires tables { FitsTask task.now tables.now }
     requires formed { IsFormed task.now sheet.now }
     ensures { MatchBool result (IsStep4 task.now tables.now sheet.now x p v) (IsStep4 task.now tables.now sheet.now x p v → ⊥) }
@@ -116,7 +120,8 @@ fn is_step4(task: &Task, tables: &Tables, sheet: &Sheet, x: u32, p: u32, v: Span
         && is_before_each(task, tables, sheet, v, list(sheet, x, p), Cand::Tok(x))
 }
 
-fn is_candidate(sheet: &Sheet, x: u32, p: u32, c: Cand) -> bool
+/// Whether `c` is a candidate of `x` for the precondition `p`.
+pub fn is_candidate(sheet: &Sheet, x: u32, p: u32, c: Cand) -> bool
     ensures { MatchBool result (IsListed sheet.now x p c) (IsListed sheet.now x p c → ⊥) }
 {
     needs(sheet, x, p) && is_listed(list(sheet, x, p), c)
@@ -128,7 +133,8 @@ fn is_other_need(sheet: &Sheet, x: u32, p: u32, q: u32) -> bool
     needs(sheet, x, q) && q != p
 }
 
-fn is_step5(task: &Task, tables: &Tables, sheet: &Sheet, x: u32, p: u32, c: Cand) -> bool
+/// Whether `c` is a candidate for `p` that cannot precede `x`: rule 5.
+pub fn is_step5(task: &Task, tables: &Tables, sheet: &Sheet, x: u32, p: u32, c: Cand) -> bool
     requires tables { FitsTask task.now tables.now }
     requires formed { IsFormed task.now sheet.now }
     ensures { MatchBool result (IsStep5 task.now tables.now sheet.now x p c) (IsStep5 task.now tables.now sheet.now x p c → ⊥) }
@@ -136,19 +142,30 @@ fn is_step5(task: &Task, tables: &Tables, sheet: &Sheet, x: u32, p: u32, c: Cand
     is_candidate(sheet, x, p, c) && !can_precede(task, tables, sheet, c, Cand::Tok(x))
 }
 
-fn is_step6(sheet: &Sheet, x: u32, p: u32) -> bool
+/// Whether the list of `x` for the precondition `p` is one token: rule 6.
+pub fn is_step6(sheet: &Sheet, x: u32, p: u32) -> bool
     ensures { MatchBool result (IsStep6 sheet.now x p) (IsStep6 sheet.now x p → ⊥) }
 {
     needs(sheet, x, p) && one_token(list(sheet, x, p)).is_some()
 }
 
-fn is_step7(sheet: &Sheet, x: u32, p: u32, a: u32) -> bool
+/// Whether the outside action `a` is a candidate for `p` without a moment: rule 7.
+pub fn is_step7(sheet: &Sheet, x: u32, p: u32, a: u32) -> bool
     ensures { MatchBool result (IsStep7 sheet.now x p a) (IsStep7 sheet.now x p a → ⊥) }
 {
     is_candidate(sheet, x, p, Cand::Out(a)) && is_shut(span(sheet, Cand::Out(a)))
 }
 
-fn is_step8(task: &Task, tables: &Tables, sheet: &Sheet, x: u32, p: u32, c: Cand, d: u32) -> bool
+/// Whether `c` is a candidate for `p`, and `d`, which deletes `p`, can come neither before it nor after `x`: rule 8.
+pub fn is_step8(
+    task: &Task,
+    tables: &Tables,
+    sheet: &Sheet,
+    x: u32,
+    p: u32,
+    c: Cand,
+    d: u32,
+) -> bool
     requires tables { FitsTask task.now tables.now }
     requires formed { IsFormed task.now sheet.now }
     ensures { MatchBool result (IsStep8 task.now tables.now sheet.now x p c d) (IsStep8 task.now tables.now sheet.now x p c d → ⊥) }
@@ -162,7 +179,7 @@ fn is_step8(task: &Task, tables: &Tables, sheet: &Sheet, x: u32, p: u32, c: Cand
 }
 
 /// The token whose place `d` threatens, where it does.
-pub(crate) fn threatened(task: &Task, sheet: &Sheet, x: u32, p: u32, d: u32) -> Option<u32>
+pub fn threatened(task: &Task, sheet: &Sheet, x: u32, p: u32, d: u32) -> Option<u32>
     ensures { MatchOption result ((y : ℕ) → IsThreatOf task.now sheet.now x p d y → ⊥) (IsThreatOf task.now sheet.now x p d) }
 {
     let y = one_token(list(sheet, x, p))?;
@@ -174,7 +191,8 @@ pub(crate) fn threatened(task: &Task, sheet: &Sheet, x: u32, p: u32, d: u32) -> 
     }
 }
 
-fn is_step9_after(task: &Task, tables: &Tables, sheet: &Sheet, x: u32, p: u32, d: u32) -> bool
+/// Whether `d` threatens what one token supplies and cannot precede that token: rule 9, after.
+pub fn is_step9_after(task: &Task, tables: &Tables, sheet: &Sheet, x: u32, p: u32, d: u32) -> bool
     requires tables { FitsTask task.now tables.now }
     requires formed { IsFormed task.now sheet.now }
     ensures { MatchBool result (IsStep9After task.now tables.now sheet.now x p d) (IsStep9After task.now tables.now sheet.now x p d → ⊥) }
@@ -185,7 +203,8 @@ fn is_step9_after(task: &Task, tables: &Tables, sheet: &Sheet, x: u32, p: u32, d
     }
 }
 
-fn is_step9_ahead(task: &Task, tables: &Tables, sheet: &Sheet, x: u32, p: u32, d: u32) -> bool
+/// Whether `d` threatens what one token supplies and `x` cannot precede `d`: rule 9, ahead.
+pub fn is_step9_ahead(task: &Task, tables: &Tables, sheet: &Sheet, x: u32, p: u32, d: u32) -> bool
     requires tables { FitsTask task.now tables.now }
     requires formed { IsFormed task.now sheet.now }
     ensures { MatchBool result (IsStep9Ahead task.now tables.now sheet.now x p d) (IsStep9Ahead task.now tables.now sheet.now x p d → ⊥) }
@@ -272,7 +291,8 @@ fn is_before_outs(task: &Task, tables: &Tables, sheet: &Sheet, a: u32, p: u32, v
     true
 }
 
-fn is_step10(task: &Task, tables: &Tables, sheet: &Sheet, a: u32, p: u32, v: Span) -> bool
+/// Whether `v` is no later than the arrival at the outside action `a` from each that adds its precondition `p`: rule 10.
+pub fn is_step10(task: &Task, tables: &Tables, sheet: &Sheet, a: u32, p: u32, v: Span) -> bool
     requires tables { FitsTask task.now tables.now }
     requires formed { IsFormed task.now sheet.now }
     ensures { MatchBool result (IsStep10 task.now tables.now sheet.now a p v) (IsStep10 task.now tables.now sheet.now a p v → ⊥) }
@@ -284,7 +304,7 @@ fn is_step10(task: &Task, tables: &Tables, sheet: &Sheet, a: u32, p: u32, v: Spa
 }
 
 /// The token whose place the outside action `a` threatens, where it does.
-fn threatened_outside(task: &Task, sheet: &Sheet, x: u32, p: u32, a: u32) -> Option<u32>
+pub fn threatened_outside(task: &Task, sheet: &Sheet, x: u32, p: u32, a: u32) -> Option<u32>
     ensures { MatchOption result ((y : ℕ) → IsOutsideThreat task.now sheet.now x p a y → ⊥) (IsOutsideThreat task.now sheet.now x p a) }
 {
     let y = one_token(list(sheet, x, p))?;
@@ -314,7 +334,9 @@ fn comes_ahead(task: &Task, tables: &Tables, sheet: &Sheet, a: u32, y: u32, v: S
     )
 }
 
-fn is_step11_after(
+/// Whether the outside action `a` deletes what one token supplies, cannot precede it, and comes after `x` from `v` on:
+/// rule 11, after.
+pub fn is_step11_after(
     task: &Task,
     tables: &Tables,
     sheet: &Sheet,
@@ -336,7 +358,9 @@ fn is_step11_after(
     }
 }
 
-fn is_step11_ahead(
+/// Whether the outside action `a` deletes what one token supplies, `x` cannot precede it, and it comes by `v` before that
+/// token: rule 11, ahead.
+pub fn is_step11_ahead(
     task: &Task,
     tables: &Tables,
     sheet: &Sheet,
@@ -358,7 +382,9 @@ fn is_step11_ahead(
     }
 }
 
-fn is_step12_after(task: &Task, tables: &Tables, sheet: &Sheet, x: u32, a: u32, v: Span) -> bool
+/// Whether `x` interferes with the outside action `a`, which cannot precede it and comes after it from `v` on: rule 12,
+/// after.
+pub fn is_step12_after(task: &Task, tables: &Tables, sheet: &Sheet, x: u32, a: u32, v: Span) -> bool
     requires tables { FitsTask task.now tables.now }
     requires formed { IsFormed task.now sheet.now }
     ensures { MatchBool result (IsStep12After task.now tables.now sheet.now x a v) (IsStep12After task.now tables.now sheet.now x a v → ⊥) }
@@ -368,7 +394,9 @@ fn is_step12_after(task: &Task, tables: &Tables, sheet: &Sheet, x: u32, a: u32, 
         && comes_after(task, tables, sheet, x, a, v)
 }
 
-fn is_step12_ahead(task: &Task, tables: &Tables, sheet: &Sheet, x: u32, a: u32, v: Span) -> bool
+/// Whether `x` interferes with the outside action `a`, which `x` cannot precede and which comes by `v` before it: rule 12,
+/// ahead.
+pub fn is_step12_ahead(task: &Task, tables: &Tables, sheet: &Sheet, x: u32, a: u32, v: Span) -> bool
     requires tables { FitsTask task.now tables.now }
     requires formed { IsFormed task.now sheet.now }
     ensures { MatchBool result (IsStep12Ahead task.now tables.now sheet.now x a v) (IsStep12Ahead task.now tables.now sheet.now x a v → ⊥) }
@@ -415,7 +443,16 @@ fn is_none_beside(
     are_impossible(task, tables, sheet, p, q, c, list(sheet, x, q))
 }
 
-fn is_step13(task: &Task, tables: &Tables, sheet: &Sheet, x: u32, p: u32, c: Cand, q: u32) -> bool
+/// Whether `c` is a candidate for `p` beside which each candidate for `q` is impossible: rule 13.
+pub fn is_step13(
+    task: &Task,
+    tables: &Tables,
+    sheet: &Sheet,
+    x: u32,
+    p: u32,
+    c: Cand,
+    q: u32,
+) -> bool
     requires tables { FitsTask task.now tables.now }
     requires formed { IsFormed task.now sheet.now }
     ensures { MatchBool result (IsStep13 task.now tables.now sheet.now x p c q) (IsStep13 task.now tables.now sheet.now x p c q → ⊥) }
@@ -425,7 +462,8 @@ fn is_step13(task: &Task, tables: &Tables, sheet: &Sheet, x: u32, p: u32, c: Can
         && is_none_beside(task, tables, sheet, x, p, c, q)
 }
 
-fn is_allowed(task: &Task, tables: &Tables, sheet: &Sheet, step: Step) -> bool
+/// Whether the condition of the step holds, with the limit of its value.
+pub fn is_allowed(task: &Task, tables: &Tables, sheet: &Sheet, step: Step) -> bool
     requires tables { FitsTask task.now tables.now }
     requires formed { IsFormed task.now sheet.now }
     ensures { MatchBool result (Allowed task.now tables.now sheet.now step) (Allowed task.now tables.now sheet.now step → ⊥) }
@@ -464,7 +502,8 @@ fn is_allowed(task: &Task, tables: &Tables, sheet: &Sheet, step: Step) -> bool
     }
 }
 
-pub(crate) fn first_token(list: &[Cand]) -> u32
+/// The number of the first token of a list that begins with one.
+pub fn first_token(list: &[Cand]) -> u32
     ensures { result ≡ only list.now }
 {
     match list {
@@ -486,7 +525,7 @@ fn lower(at: Cand, to: Span) -> Change
 }
 
 /// What a step changes.
-pub fn change(sheet: &Sheet, step: Step) -> Change
+pub fn change_of(sheet: &Sheet, step: Step) -> Change
     ensures { result ≡ change_of sheet.now step }
 {
     match step {
@@ -522,23 +561,13 @@ pub fn change(sheet: &Sheet, step: Step) -> Change
     }
 }
 
-fn exceeds_strictly(a: Span, b: Span) -> bool
-    ensures { MatchBool result (b <ˢ a) (b <ˢ a → ⊥) }
-{
-    match (a, b) {
-        (Span::At(x), Span::At(y)) => x > y,
-        (Span::Never, Span::At(_)) => true,
-        (Span::At(_), Span::Never) => false,
-        (Span::Never, Span::Never) => false,
-    }
-}
-
-fn moves(sheet: &Sheet, change: Change) -> bool
+/// Whether the change narrows the sheet.
+pub fn moves(sheet: &Sheet, change: Change) -> bool
     ensures { MatchBool result (Moves sheet.now change) (Moves sheet.now change → ⊥) }
 {
     match change {
-        Change::Raise { at, to } => exceeds_strictly(to, span(sheet, at).lo),
-        Change::Lower { at, to } => exceeds_strictly(Span::At(span(sheet, at).hi), to),
+        Change::Raise { at, to } => is_sooner(span(sheet, at).lo, to),
+        Change::Lower { at, to } => is_sooner(to, Span::At(span(sheet, at).hi)),
         Change::Take { tok, pre, cand } => is_listed(list(sheet, tok, pre), cand),
         Change::Post { first, second } => !stands(sheet, first, second),
     }
@@ -551,5 +580,5 @@ pub fn legal(task: &Task, tables: &Tables, sheet: &Sheet, step: &Step) -> bool
     ensures { IsTrue result ↔ IsLegal task.now tables.now sheet.now step.now }
 {
     let step = *step;
-    !is_dead(sheet) && is_allowed(task, tables, sheet, step) && moves(sheet, change(sheet, step))
+    !is_dead(sheet) && is_allowed(task, tables, sheet, step) && moves(sheet, change_of(sheet, step))
 }

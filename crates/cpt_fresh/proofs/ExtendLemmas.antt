@@ -1,34 +1,27 @@
 -- what stands in a sheet stands in those that extend it
-use Rattle.std.proofs.Common.{◌≡◌, ℕ, suc, ◌+◌, ◌≤◌, ◌<◌, ◌==◌, ◌&&◌, ◌||◌, ◌⊎◌, inl, inr, Bool, true, false, List, [], ◌∷◌, ◌++◌, length, map, Contains, Option, Some, None, refl, sym, ap, ◌∙◌, subst, arith, if◌then◌else◌, get_or-set_same, length-append}
-use Rattle.std.proofs.lemmas.Bool.{cases_lt, or_left, or_right, or_cases, and_from, eq-eqb, both_ways}
+use Rattle.std.proofs.Common.{◌≡◌, ℕ, ◌<◌, ◌==◌, ◌||◌, inl, inr, Bool, true, false, List, [], ◌∷◌, length, map, refl, sym, ap, ◌∙◌, subst, arith, if◌then◌else◌, get_or-set_same}
 use Rattle.std.proofs.lemmas.Option.{unwrap_or-slice_get}
-use Rattle.std.proofs.lemmas.List.{length-map, append-nil}
 use Rattle.std.proofs.lemmas.List.Elements.{length_all_zip}
 use Rattle.cpt_task.specs.Shape.{TaskShape}
-use Rattle.cpt_tables.specs.declared.tables.Tables.{Tables}
 use Rattle.cpt_sheet.specs.declared.data.Cand.{Cand}
 use Rattle.cpt_sheet.specs.declared.data.Cand.TheVariants.{Tok, Out}
-use Rattle.cpt_sheet.specs.declared.data.Decision.{Decision}
 use Rattle.cpt_sheet.specs.declared.data.Decision.TheVariants.{Join, Bring, Before}
-use Rattle.cpt_sheet.specs.declared.data.Kind.{Kind}
-use Rattle.cpt_sheet.specs.declared.data.Kind.TheVariants.{Act}
 use Rattle.cpt_sheet.specs.declared.data.Need.{Need}
 use Rattle.cpt_sheet.specs.declared.data.Token.{Token}
 use Rattle.cpt_sheet.specs.declared.data.Sheet.{Sheet}
-use Rattle.cpt_sheet.specs.Below.{IsBelowSheet, Part, TokenBelow}
+use Rattle.cpt_sheet.specs.Below.{Part, TokenBelow}
 use Rattle.cpt_sheet.specs.Edits.{posted, revised, with_token, with_list}
-use Rattle.cpt_sheet.specs.Live.{IsLive}
-use Rattle.cpt_sheet.specs.View.{kind_of, has, has_order, has_need, has_atom, list_for, token_at, no_token, cands, before}
-use Rattle.cpt_sheet.proofs.FormedLemmas.{at_past}
-use Rattle.cpt_calculus.specs.Decisions.{Fits, applied, beside, joined, with_offers, with_new, brought}
+use Rattle.cpt_sheet.specs.View.{has, has_order, has_need, has_atom, list_for, token_at, no_token, cands}
+use Rattle.cpt_calculus.specs.Decisions.{applied, beside, joined, with_offers}
 use Rattle.cpt_calculus.specs.Rules.{IsToken}
 use Rattle.cpt_calculus.proofs.Adders.{has_one}
-use Rattle.cpt_calculus.proofs.Below.{kinds, parts, same_need, live_lists, list_cons, order_posted}
+use Rattle.cpt_calculus.proofs.Below.{kinds, parts, same_need, live_lists, list_cons, posted_here, posted_more}
 use Rattle.cpt_calculus.proofs.Parts.{Part-one}
-use Rattle.cpt_calculus.proofs.Views.{count_with, kind_with_list, atoms_with_list, cands_with_list}
-use Rattle.cpt_steps.proofs.BringViews.{need_from_atoms, map_at, offered_atoms, bring_count, bring_token, bring_kind, bring_need, bring_cands, bring_posted, bring_old}
-use Rattle.cpt_steps.proofs.LandingLemmas.{need_there}
-use Rattle.cpt_fresh.specs.Extending.{Extends, Carries, ExtendsItself, ExtendsOn, LiveExtends, DecisionsExtend, DecisionsAreCarried, BroughtIsNew, CarriedOn, DecisionsBringOne}
+use Rattle.cpt_calculus.proofs.Views.{need_from_atoms, count_with_list, need_with_list, kind_with_list, cands_with_list}
+use Rattle.cpt_calculus.proofs.Brings.{map_at, offered_atoms, bring_count, bring_token, bring_kind, bring_need, bring_cands, bring_posted, bring_old}
+use Rattle.cpt_calculus.proofs.Reading.{need_of, need_there}
+pub use Rattle.cpt_calculus.proofs.Reading.{listed_need}
+use Rattle.cpt_fresh.specs.Extending.{Extends, ExtendsItself, ExtendsOn, LiveExtends, DecisionsExtend, DecisionsAreCarried, BroughtIsNew, CarriedOn, DecisionsBringOne}
 
 pub extends_itself : ExtendsItself
 extends_itself s = record { count = omega arith; kinds = λ x l. refl; needs = λ x p l. refl; suppliers = λ x p y n e. e; orders = λ x y o. o }
@@ -51,18 +44,6 @@ live_extends s u below live = record {
   orders = below.orders;
 }
 
-order_kept : (x y u v : ℕ) (os : List (ℕ × ℕ)) → has_order u v os ≡ true → has_order u v (posted x y os) ≡ true
-order_kept x y u v os h = order_posted x y u v os ∙ or_right ((x == u) && (y == v)) (has_order u v os) h
-
-order_new : (x y : ℕ) (os : List (ℕ × ℕ)) → has_order x y (posted x y os) ≡ true
-order_new x y os = order_posted x y x y os ∙ or_left ((x == x) && (y == y)) (has_order x y os) (and_from (x == x) (y == y) (eq-eqb x x refl) (eq-eqb y y refl))
-
-need_with_list : (s : Sheet) (x p : ℕ) (f : List Cand → List Cand) (y q : ℕ) → has_need (with_list s x p f) y q ≡ has_need s y q
-need_with_list s x p f y q = need_from_atoms q (token_at (with_list s x p f) y).lists (token_at s y).lists (atoms_with_list s x p f y)
-
-count_with_list : (s : Sheet) (x p : ℕ) (f : List Cand → List Cand) → length (with_list s x p f).tokens ≡ length s.tokens
-count_with_list s x p f = count_with s x (record (token_at s x) { lists = revised p f (token_at s x).lists })
-
 -- where the list that a decision fixes was one token, it was this one
 only_joined : (s : Sheet) (x p y v q z : ℕ) → has (Tok y) (cands s x p) ≡ true → v ≡ x → q ≡ p → IsToken (cands s v q) z → Tok y ∷ [] ≡ Tok z ∷ []
 only_joined s x p y v q z fits ev eq e =
@@ -84,7 +65,7 @@ before_extends t s x y = record {
   kinds = λ v l. refl;
   needs = λ v q l. refl;
   suppliers = λ v q z n e. e;
-  orders = λ v z o. order_kept x y v z s.orders o;
+  orders = λ v z o. posted_more x y v z s.orders o;
 }
 
 not_brought : (s : Sheet) (x p a v q z : ℕ) → has (Out a) (cands s x p) ≡ true → v ≡ x → q ≡ p → IsToken (cands s v q) z → ⊥
@@ -102,23 +83,14 @@ bring_extends t s x p a fits = record {
     | inr k ↦ absurd (not_brought s x p a v q z fits k.0 k.1 e)
   ];
   orders = λ v z o. subst (λ w. has_order v z w ≡ true) (sym (bring_posted t s x p a))
-      (order_kept (length s.tokens) x v z (posted (length s.tokens) 1 (posted 0 (length s.tokens) s.orders))
-      (order_kept (length s.tokens) 1 v z (posted 0 (length s.tokens) s.orders) (order_kept 0 (length s.tokens) v z s.orders o)));
+      (posted_more (length s.tokens) x v z (posted (length s.tokens) 1 (posted 0 (length s.tokens) s.orders))
+      (posted_more (length s.tokens) 1 v z (posted 0 (length s.tokens) s.orders) (posted_more 0 (length s.tokens) v z s.orders o)));
 }
 
 pub decisions_extend : DecisionsExtend
 decisions_extend t s (Join x p y) fits = join_extends s x p y fits
 decisions_extend t s (Bring x p a) fits = bring_extends t s x p a fits
 decisions_extend t s (Before x y) fits = before_extends t s x y
-
--- who stands in a list shows that the list is there
-pub listed_need : (p : ℕ) (c : Cand) (ns : List Need) → has c (list_for p ns) ≡ true → has_atom p ns ≡ true
-listed_need p c [] h = absurd (cc)
-listed_need p c (n ∷ ns) h = go (n.atom == p) (subst (λ (l : List Cand). has c l ≡ true) (list_cons p n ns) h) (λ k. listed_need p c ns k)
-  where
-    go : (b : Bool) → has c (if b then n.cands else list_for p ns) ≡ true → (has c (list_for p ns) ≡ true → has_atom p ns ≡ true) → (b || has_atom p ns) ≡ true
-    go true k ih = refl
-    go false k ih = ih k
 
 -- the list that is changed
 revised_here : (p : ℕ) (g : List Cand → List Cand) (ns : List Need) → has_atom p ns ≡ true → list_for p (revised p g ns) ≡ g (list_for p ns)
@@ -143,9 +115,6 @@ cands_here : (s : Sheet) (x p : ℕ) (g : List Cand → List Cand) → has_need 
 cands_here s x p g n =
     ap (λ (z : Token). list_for p z.lists) (token_here s x (record (token_at s x) { lists = revised p g (token_at s x).lists }) (need_there s x p n)) ∙ revised_here p g (token_at s x).lists n
 
-need_of : (s : Sheet) (x p : ℕ) (c : Cand) → has c (cands s x p) ≡ true → has_need s x p ≡ true
-need_of s x p c h = listed_need p c (token_at s x).lists h
-
 offers_need : (s : Sheet) (a n x p : ℕ) → has_need (with_offers s a n) x p ≡ has_need s x p
 offers_need s a n x p =
     need_from_atoms p (token_at (with_offers s a n) x).lists (token_at s x).lists
@@ -165,7 +134,7 @@ decisions_are_carried t s (Bring x p a) fits =
       bring_need t s x p a x p (need_there s x p n) ∙ n,
       (length s.tokens, (let c = bring_count t s x p a in omega arith), ap (λ (z : Token). z.kind) (bring_token t s x p a), brought_is_new t s x p a fits),
     )
-decisions_are_carried t s (Before x y) fits = order_new x y s.orders
+decisions_are_carried t s (Before x y) fits = posted_here x y s.orders
 
 pub carried_on : CarriedOn
 carried_on s u (Join x p y) e h = (e.needs x p (need_there s x p h.0) ∙ h.0, e.suppliers x p y h.0 h.1)

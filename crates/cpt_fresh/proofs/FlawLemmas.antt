@@ -1,25 +1,21 @@
 -- first flaws, and sheets without a flaw
-use Rattle.std.proofs.Common.{◌≡◌, ◌≢◌, ℕ, ◌≤◌, ◌<◌, ◌==◌, List, [], ◌∷◌, length, Bool, true, false, ◌||◌, if◌then◌else◌, refl, sym, ap, ◌∙◌, subst, inl, inr, ◌⊎◌, arith}
-use Rattle.std.proofs.lemmas.Bool.{cases_Bool, cases_lt, cases_eq, both_ways}
+use Rattle.std.proofs.Common.{◌≡◌, ◌≢◌, ℕ, ◌<◌, List, [], ◌∷◌, length, true, refl, sym, ap, ◌∙◌, subst, inl, inr, ◌⊎◌, arith}
+use Rattle.std.proofs.lemmas.Bool.{cases_Bool, cases_lt, both_ways}
 use Rattle.cpt_task.specs.Shape.{TaskShape}
-use Rattle.cpt_tables.specs.declared.tables.Tables.{Tables}
 use Rattle.cpt_sheet.specs.declared.data.Cand.{Cand}
 use Rattle.cpt_sheet.specs.declared.data.Cand.TheVariants.{Tok, Out}
-use Rattle.cpt_sheet.specs.declared.data.Kind.{Kind}
-use Rattle.cpt_sheet.specs.declared.data.Kind.TheVariants.{Start, End, Act}
-use Rattle.cpt_sheet.specs.declared.data.Need.{Need}
 use Rattle.cpt_sheet.specs.declared.data.Sheet.{Sheet}
-use Rattle.cpt_sheet.specs.declared.data.Step.{Step}
 use Rattle.cpt_sheet.specs.declared.data.Step.TheVariants.{R1, R2, R3, R4, R5, R6, R7, R8, R9After, R9Ahead, R10, R11After, R11Ahead, R12After, R12Ahead, R13}
 use Rattle.cpt_sheet.specs.declared.data.Flaw.{Flaw}
 use Rattle.cpt_sheet.specs.declared.data.Flaw.TheVariants.{Threat, OpenNeed, Clash}
 use Rattle.cpt_sheet.specs.Live.{IsLive}
 use Rattle.cpt_sheet.specs.Roles.{Clash as Interfere}
-use Rattle.cpt_sheet.specs.View.{kind_of, has_need, has_atom, list_for, token_at, cands, before}
-use Rattle.cpt_calculus.specs.Flaws.{IsChosenBefore, IsPairBefore, IsOpenNeed, IsFirstFlaw, HasNoFlaw}
-use Rattle.cpt_calculus.specs.Rules.{IsThreatOf, IsToken, all_rules, is_of}
-use Rattle.cpt_calculus.proofs.Below.{list_cons, live_lists}
-use Rattle.cpt_fresh.specs.Flawless.{ChoiceIsTotal, ChoiceIsStrict, ChoiceIsOrder, OneFirstFlaw, NoFlawNoFirst, IsDecided, FlawlessIsDecided, DecidedIsFlawless, EachStepInUse, ClosedForAll}
+use Rattle.cpt_sheet.specs.View.{kind_of, has_need, token_at, cands, before}
+use Rattle.cpt_calculus.specs.Flaws.{IsChosenBefore, IsPairBefore, HasNoFlaw}
+use Rattle.cpt_calculus.specs.Rules.{IsThreatOf, IsToken}
+use Rattle.cpt_calculus.proofs.Below.{live_lists}
+use Rattle.cpt_calculus.proofs.Reading.{clash_swap, no_need_no_list}
+use Rattle.cpt_fresh.specs.Flawless.{ChoiceIsTotal, ChoiceIsOrder, OneFirstFlaw, NoFlawNoFirst, FlawlessIsDecided, DecidedIsFlawless, EachStepInUse, ClosedForAll}
 
 -- numbers
 apart_cases : (m n : ℕ) → (m < n) ⊎ ((m ≡ n) ⊎ (n < m))
@@ -141,22 +137,6 @@ one_first_flaw t s f g h k =
 pub no_flaw_no_first : NoFlawNoFirst
 no_flaw_no_first t s f none h = none f h.stands
 
-swap_clash : (t : TaskShape) (j k : Kind) → Interfere t j k → Interfere t k j
-swap_clash t (Act a) (Act b) h = record { first = h.second; second = h.first; interfere = record { interfere = elim h.interfere.interfere [ inl e ↦ inr e | inr e ↦ inl e ] } }
-swap_clash t (Act a) Start h = absurd h
-swap_clash t (Act a) End h = absurd h
-swap_clash t Start k h = absurd h
-swap_clash t End k h = absurd h
-
--- an atom that is none of the preconditions has no list
-no_need_no_list : (p : ℕ) (ns : List Need) → has_atom p ns ≡ false → list_for p ns ≡ []
-no_need_no_list p [] e = refl
-no_need_no_list p (n ∷ ns) e = go (n.atom == p) refl e (λ k. no_need_no_list p ns k)
-  where
-    go : (b : Bool) → (n.atom == p) ≡ b → (b || has_atom p ns) ≡ false → (has_atom p ns ≡ false → list_for p ns ≡ []) → list_for p (n ∷ ns) ≡ []
-    go true h k ih = absurd (cc)
-    go false h k ih = list_cons p n ns ∙ (ap (λ b. if b then n.cands else list_for p ns) h ∙ ih k)
-
 -- a list that is not empty is one token, or a choice is open
 one_or_open : (cs : List Cand) → ((y : ℕ) × IsToken cs y) ⊎ ((y : ℕ) → IsToken cs y → ⊥)
 one_or_open [] = inr (λ y e. cc)
@@ -182,9 +162,6 @@ module _ (t : TaskShape) (s : Sheet) where
         ]
       ]
 
-  clash_swap : (x y : ℕ) → Interfere t (kind_of s (Tok x)) (kind_of s (Tok y)) → Interfere t (kind_of s (Tok y)) (kind_of s (Tok x))
-  clash_swap x y h = swap_clash t (kind_of s (Tok x)) (kind_of s (Tok y)) h
-
   in_order : HasNoFlaw t s → (x y : ℕ) → x < y → Interfere t (kind_of s (Tok x)) (kind_of s (Tok y)) → (before s x y ≡ true) ⊎ (before s y x ≡ true)
   in_order none x y l h =
       elim (cases_Bool (before s x y)) [
@@ -201,7 +178,7 @@ module _ (t : TaskShape) (s : Sheet) where
         | inl l ↦ in_order none x y l h
         | inr k ↦ elim k [
           | inl e ↦ absurd (n e)
-          | inr l ↦ elim (in_order none y x l (clash_swap x y h)) [ inl e ↦ inr e | inr e ↦ inl e ]
+          | inr l ↦ elim (in_order none y x l (clash_swap t (kind_of s (Tok x)) (kind_of s (Tok y)) h)) [ inl e ↦ inr e | inr e ↦ inl e ]
         ]
       ]
 

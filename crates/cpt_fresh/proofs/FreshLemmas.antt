@@ -9,7 +9,7 @@ use Rattle.cpt_sheet.specs.Formed.{IsFormed}
 use Rattle.cpt_sheet.specs.Gaps.{FitsTask}
 use Rattle.cpt_calculus.specs.Closing.{ClosesTo, IsFresh}
 use Rattle.cpt_calculus.specs.Closing.IsFresh.{at_root, decided}
-use Rattle.cpt_calculus.specs.Decisions.{Fits, applied}
+use Rattle.cpt_calculus.specs.Decisions.{applied}
 use Rattle.cpt_calculus.specs.Root.{root_of}
 use Rattle.cpt_calculus.proofs.ApplyFormed.{applied_formed}
 use Rattle.cpt_calculus.proofs.Confluence.{closes_live, closes_dead, one_end}

@@ -1,5 +1,5 @@
 -- what lasts from fresh sheet to fresh sheet
-use Rattle.std.proofs.Common.{◌≡◌, ℕ, ◌+◌, ◌≤◌, ◌<◌, ◌⊎◌, inl, inr, List, [], ◌∷◌, ◌++◌, length, Contains, Option, Some, None, refl, sym, ap, ◌∙◌, subst, arith, length-append}
+use Rattle.std.proofs.Common.{◌≡◌, ℕ, ◌+◌, ◌≤◌, ◌⊎◌, inl, inr, List, [], ◌∷◌, ◌++◌, length, Contains, Option, Some, refl, sym, ap, ◌∙◌, subst, arith, length-append}
 use Rattle.std.proofs.lemmas.List.{append-nil, append_assoc, same_from_push}
 use Rattle.std.proofs.lemmas.List.Elements.{length_all_zip, Contains-push_cases}
 use Rattle.cpt_task.specs.Shape.{TaskShape}

@@ -1,4 +1,4 @@
-use Rattle.std.specs.Prelude.{◌≡◌, ℕ, ◌≤◌, ◌<◌, ◌+◌, true, List, [], ◌∷◌, ◌++◌, length, Contains, Some}
+use Rattle.std.specs.Prelude.{◌≡◌, ℕ, ◌≤◌, ◌<◌, ◌+◌, true, List, ◌++◌, length, Contains, Some}
 use Rattle.cpt_task.specs.Shape.{TaskShape}
 use Rattle.cpt_tables.specs.declared.tables.Tables.{Tables}
 use Rattle.cpt_sheet.specs.declared.data.Cand.TheVariants.{Tok}

@@ -1,4 +1,4 @@
-use Rattle.std.specs.Prelude.{◌≡◌, ◌≢◌, ℕ, ◌<◌, ◌⊎◌, true, length, List}
+use Rattle.std.specs.Prelude.{◌≡◌, ◌≢◌, ℕ, ◌⊎◌, true}
 use Rattle.cpt_task.specs.Shape.{TaskShape}
 use Rattle.cpt_tables.specs.declared.tables.Tables.{Tables}
 use Rattle.cpt_sheet.specs.declared.data.Cand.TheVariants.{Tok}
@@ -9,7 +9,7 @@ use Rattle.cpt_sheet.specs.Live.{IsLive}
 use Rattle.cpt_sheet.specs.Roles.{Clash}
 use Rattle.cpt_sheet.specs.View.{kind_of, has_need, cands, before}
 use Rattle.cpt_calculus.specs.Closing.{IsClosed}
-use Rattle.cpt_calculus.specs.Flaws.{IsFlaw, IsChosenBefore, IsFirstFlaw, HasNoFlaw}
+use Rattle.cpt_calculus.specs.Flaws.{IsChosenBefore, IsFirstFlaw, HasNoFlaw}
 use Rattle.cpt_calculus.specs.Rules.{IsLegal, IsThreatOf, IsToken, all_rules, is_of}
 
 -- of two flaws one is chosen before the other, or they are one

@@ -3,7 +3,7 @@
 ghost use Rattle.std.specs.Prelude.{◌≡◌, ◌<◌, ◌^◌, MatchBool, All, length};
 ghost use Rattle.cpt_tables.specs.Shapes.{most_dist, set_span_of};
 ghost use Rattle.cpt_tables.specs.Admissible.{nth_action};
-ghost use Rattle.cpt_tables.specs.Spans.{◌≤ˢ◌, ◌+ˢ◌, IsBelow};
+ghost use Rattle.cpt_tables.specs.Spans.{◌≤ˢ◌, ◌<ˢ◌, ◌+ˢ◌, IsBelow};
 ghost use Rattle.cpt_sheet.specs.Formed.{IsFormed};
 ghost use Rattle.cpt_sheet.specs.Gaps.{FitsTask, gap, back, arrival, deadline, ordered, CanPrecede, IsStuck, DeleteEachOther, Exclude, reach, IsImpossibleBeside};
 ghost use Rattle.cpt_sheet.specs.Roles.{IsKindOf, needs_of, Deletes, Clash};
@@ -88,6 +88,18 @@ pub fn arrives(task: &Task, tables: &Tables, sheet: &Sheet, c: Cand, d: Cand) ->
 {
     let apart = gap(task, tables, kind(sheet, c), kind(sheet, d));
     add_spans(span(sheet, c).lo, apart)
+}
+
+/// Whether the first span is earlier than the second.
+pub fn is_sooner(a: Span, b: Span) -> bool
+    ensures { MatchBool result (a <ˢ b) (a <ˢ b → ⊥) }
+{
+    match (a, b) {
+        (Span::At(x), Span::At(y)) => x < y,
+        (Span::At(_), Span::Never) => true,
+        (Span::Never, Span::At(_)) => false,
+        (Span::Never, Span::Never) => false,
+    }
 }
 
 fn back_by(moment: u64, gap: Span) -> u64

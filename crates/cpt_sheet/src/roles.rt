@@ -39,7 +39,8 @@ pub fn adds_of(task: &Task, kind: Kind) -> &[u32]
     }
 }
 
-fn deletes_of(task: &Task, kind: Kind) -> &[u32]
+/// The atoms that it deletes; none for an action that is not there.
+pub fn deletes_of(task: &Task, kind: Kind) -> &[u32]
     ensures { result.now ≡ deletes_of task.now kind }
 {
     match kind {

@@ -27,7 +27,7 @@ use Rattle.cpt_calculus.specs.Plans.{Who, begins, who, who_of_kind, StandsFor, S
 use Rattle.cpt_calculus.specs.Plans.Who.{begin, finish, place}
 use Rattle.cpt_soundness.specs.Acting.{IsAdmissible, kind_who, IsWithin, IsAhead}
 use Rattle.cpt_soundness.proofs.PlanLemmas.{nil_has, keeps_gaps, not_both, apart, cleared, supplies_ahead, supplies_within, supplier}
-use Rattle.cpt_soundness.proofs.ViewLemmas.{same_is, same_self}
+use Rattle.cpt_calculus.proofs.Parts.{same_is, same_self}
 
 back_le : (m n : ℕ) (g : Span) → (At m +ˢ g) ≤ˢ At n → At m ≤ˢ At (back n g)
 back_le m n (At g) h = omega arith

@@ -12,13 +12,13 @@ use Rattle.cpt_tables.proofs.PlanFacts.{in_from_contains}
 use Rattle.cpt_sheet.specs.declared.data.Cand.{Cand}
 use Rattle.cpt_sheet.specs.declared.data.Cand.TheVariants.{Tok, Out}
 use Rattle.cpt_sheet.specs.declared.data.Kind.TheVariants.{Act}
-use Rattle.cpt_sheet.specs.declared.data.Need.{Need}
 use Rattle.cpt_sheet.specs.declared.data.Sheet.{Sheet}
 use Rattle.cpt_sheet.specs.Roles.{adds_of, Adds}
 use Rattle.cpt_sheet.specs.Live.{is_open, is_by, IsOpen}
 use Rattle.cpt_sheet.specs.View.{span_of, kind_of, list_for, has_atom, has, same}
 use Rattle.cpt_calculus.specs.Decisions.{token_adders, out_adders, adders, need_for}
-use Rattle.cpt_soundness.proofs.ViewLemmas.{same_self, list_cons}
+use Rattle.cpt_calculus.proofs.Parts.{same_self}
+use Rattle.cpt_calculus.proofs.Below.{list_cons}
 
 pub has_left : (c : Cand) (xs ys : List Cand) → has c xs ≡ true → has c (xs ++ ys) ≡ true
 has_left c xs ys h = list_any-append (λ d. same d c) xs ys ∙ or_left (has c xs) (has c ys) h
@@ -75,11 +75,7 @@ out_among t s p a l live adds =
     (out_added t s p (length t.actions) a l
     (and_from (is_open (span_of s (Out a))) (is_in p (nth_action t a).add) (by_is (span_of s (Out a)).lo (span_of s (Out a)).hi live) (in_from_contains (nth_action t a).add p adds)))
 
--- the lists that are made for atoms
-pub made_atoms : (t : TaskShape) (s : Sheet) (ps : List ℕ) → map (λ (n : Need). n.atom) (map (need_for t s) ps) ≡ ps
-made_atoms t s [] = refl
-made_atoms t s (p ∷ ps) = ap (λ qs. p ∷ qs) (made_atoms t s ps)
-
+-- the list that is made for an atom
 pub made_list : (t : TaskShape) (s : Sheet) (p : ℕ) (ps : List ℕ) → has_atom p (map (need_for t s) ps) ≡ true → list_for p (map (need_for t s) ps) ≡ adders t s p
 made_list t s p [] h = cc
 made_list t s p (q ∷ ps) h = list_cons p (need_for t s q) (map (need_for t s) ps) ∙ go (q == p) refl h (λ k. made_list t s p ps k)

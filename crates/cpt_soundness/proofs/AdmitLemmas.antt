@@ -17,7 +17,9 @@ use Rattle.cpt_sheet.specs.View.{lo, hi, span_of, kind_of, cands, list_for, has_
 use Rattle.cpt_sheet.specs.Edits.{changed, with_span, with_list, with_posted, without, moment_or}
 use Rattle.cpt_calculus.specs.Plans.{Who, begins, ends, who, who_of_kind, StandsFor, Supplies, Admits}
 use Rattle.cpt_soundness.specs.Safety.{Safe}
-use Rattle.cpt_soundness.proofs.ViewLemmas.{span_with, lists_with_span, kind_with_span, count_with_span, orders_with_span, bound_with_span, span_with_list, kind_with_list, count_with_list, need_with_list, cands_with_list, has_without, order_posted}
+use Rattle.cpt_calculus.proofs.Below.{posted_cases}
+use Rattle.cpt_calculus.proofs.Parts.{has_without}
+use Rattle.cpt_calculus.proofs.Views.{span_with, lists_with_span, kind_with_span, tokens_with_span, orders_with_span, bound_with_span, span_with_list, kind_with_list, count_with_list, need_with_list, cands_with_list}
 
 -- the two sheets have the same bound, the same tokens and the same needs
 pub record IsAlike (s s' : Sheet) : Type 0 where
@@ -60,7 +62,7 @@ module _ (t : TaskShape) (plan : List Occ) (f : ℕ → ℕ) (s s' : Sheet) (ali
 pub alike_span : (s : Sheet) (c : Cand) (i : Interval) → IsAlike s (with_span s c i)
 alike_span s c i = record {
   bound = bound_with_span s c i;
-  count = count_with_span s c i;
+  count = tokens_with_span s c i;
   kinds = λ x. kind_with_span s c i x;
   needs = λ x p. ap (λ (ns : List Need). has_atom p ns) (lists_with_span s c i x);
 }
@@ -108,7 +110,7 @@ module _ (t : TaskShape) (plan : List Occ) (f : ℕ → ℕ) where
 
   pub admit_posted : (s : Sheet) (x y : ℕ) → Admits t plan f s → ends t plan (who f s x) ≤ begins t plan (who f s y) → Admits t plan f (with_posted s x y)
   admit_posted s x y h safe = admit_from t plan f s (with_posted s x y) (alike_posted s x y) h h.spans
-      (λ u v e. elim (order_posted x y u v s.orders e) [
+      (λ u v e. elim (posted_cases x y u v s.orders e) [
         | inl k ↦ subst (λ z. ends t plan (who f s z) ≤ begins t plan (who f s v)) k.0 (subst (λ z. ends t plan (who f s x) ≤ begins t plan (who f s z)) k.1 safe)
         | inr k ↦ h.orders u v k
       ])

@@ -33,13 +33,15 @@ use Rattle.cpt_calculus.specs.Plans.Who.{begin, finish, place}
 use Rattle.cpt_soundness.specs.Acting.{IsAdmissible, kind_who}
 use Rattle.cpt_soundness.specs.Children.{with_place, AdmitsAfter, ChildrenCover}
 use Rattle.cpt_soundness.proofs.PlanLemmas.{end_le, held, supplies_ahead, supplies_adds, supplies_one}
-use Rattle.cpt_soundness.proofs.ViewLemmas.{same_is, same_self, list_cons}
+use Rattle.cpt_calculus.proofs.Parts.{same_is, same_self}
+use Rattle.cpt_calculus.proofs.Below.{list_cons}
 use Rattle.cpt_soundness.proofs.AdmitLemmas.{admit_list, admit_posted}
 use Rattle.cpt_soundness.proofs.ActingLemmas as acting
 use Rattle.cpt_soundness.proofs.ActingLemmas.{atom_there, clash_there, clash_there_last}
 use Rattle.cpt_soundness.proofs.RuleLemmas as rules
-use Rattle.cpt_soundness.proofs.AdderLemmas.{token_among, out_among, made_atoms, made_list}
-use Rattle.cpt_soundness.proofs.BringLemmas.{beside_new, beside_old, bring_count, bring_token, bring_kind, bring_span, bring_need, bring_cands, bring_orders}
+use Rattle.cpt_soundness.proofs.AdderLemmas.{token_among, out_among, made_list}
+use Rattle.cpt_calculus.proofs.Adders.{atoms_made}
+use Rattle.cpt_calculus.proofs.Brings.{beside_new, beside_old, bring_count, bring_token, bring_kind, bring_span, bring_need, bring_cands, bring_orders}
 
 -- a candidate of a list gives one of the choices
 choice_there : (x p : ℕ) (c : Cand) (cs : List Cand) → has c cs ≡ true → Contains (map (choice x p) cs) (choice x p c)
@@ -244,7 +246,7 @@ module _ (t : TaskShape) (b : Tables) (plan : List Occ) (ok : IsAdmissible t b) 
         needed : Contains (needs_of t (kind_who plan (place i))) q
         needed =
             subst (λ z. Contains (nth_action t z).pre q) (sym out.action)
-            (subst (λ ps. Contains ps q) (made_atoms t s (nth_action t a).pre) (atom_there q (map (need_for t s) (nth_action t a).pre) made))
+            (subst (λ ps. Contains ps q) (atoms_made t s (nth_action t a).pre) (atom_there q (map (need_for t s) (nth_action t a).pre) made))
 
         added : Contains (adds_of t (kind_who plan w)) q
         added = supplies_adds t plan ok.bounds valid q (begins t plan (place i)) w (held t plan ok.bounds valid (place i) q out.within needed) m

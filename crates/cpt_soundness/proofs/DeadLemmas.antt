@@ -23,7 +23,7 @@ use Rattle.cpt_sheet.proofs.FormedLemmas.{kind_there}
 use Rattle.cpt_calculus.specs.Plans.{begins, who}
 use Rattle.cpt_soundness.specs.Sets.{HasSets}
 use Rattle.cpt_soundness.specs.Laws.{DeadAdmitsNone}
-use Rattle.cpt_soundness.proofs.ViewLemmas.{list_cons}
+use Rattle.cpt_calculus.proofs.Below.{list_cons}
 use Rattle.cpt_soundness.proofs.ActingLemmas as acting
 
 -- of needs for different atoms each is read by its atom

@@ -1,40 +1,22 @@
 -- the children of a flaw of a formed sheet fit
-use Rattle.std.proofs.Common.{◌≡◌, ℕ, suc, zero, ◌≤◌, List, [], ◌∷◌, map, true, Contains, sym, subst, arith}
+use Rattle.std.proofs.Common.{◌≡◌, ℕ, suc, zero, List, [], ◌∷◌, map, true, Contains, sym, subst, arith}
 use Rattle.std.proofs.lemmas.Bool.{or_left, or_right}
 use Rattle.cpt_task.specs.Shape.{TaskShape}
 use Rattle.cpt_sheet.specs.declared.data.Cand.{Cand}
 use Rattle.cpt_sheet.specs.declared.data.Cand.TheVariants.{Tok, Out}
-use Rattle.cpt_sheet.specs.declared.data.Kind.{Kind}
 use Rattle.cpt_sheet.specs.declared.data.Sheet.{Sheet}
 use Rattle.cpt_sheet.specs.declared.data.Decision.{Decision}
 use Rattle.cpt_sheet.specs.declared.data.Decision.TheVariants.{Before}
 use Rattle.cpt_sheet.specs.declared.data.Flaw.{Flaw}
 use Rattle.cpt_sheet.specs.declared.data.Flaw.TheVariants.{Threat, OpenNeed, Clash}
-use Rattle.cpt_sheet.specs.Roles.{Deletes, Clash as Interfere}
 use Rattle.cpt_sheet.specs.View.{kind_of, cands, has, same}
 use Rattle.cpt_sheet.specs.Formed.{IsFormed, IsPlaced}
 use Rattle.cpt_calculus.specs.Rules.{only}
 use Rattle.cpt_calculus.specs.Decisions.{Fits}
 use Rattle.cpt_calculus.specs.Flaws.{IsFlaw, children, choice}
-use Rattle.cpt_soundness.proofs.PlanLemmas.{nil_has}
-use Rattle.cpt_soundness.proofs.ViewLemmas.{same_self}
-use Rattle.cpt_soundness.proofs.ActingLemmas.{deleter_there, clash_there, clash_there_last}
-use Rattle.cpt_soundness.proofs.FormedLemmas.{cand_there}
-
--- a token that deletes is neither the start nor the end
-deleter_behind : (t : TaskShape) (s : Sheet) (d p : ℕ) → IsFormed t s → Deletes t (kind_of s (Tok d)) p → 2 ≤ d
-deleter_behind t s zero p f h = absurd (nil_has p (subst (λ k. Deletes t k p) f.start h))
-deleter_behind t s (suc zero) p f h = absurd (nil_has p (subst (λ k. Deletes t k p) f.end h))
-deleter_behind t s (suc (suc d)) p f h = omega arith
-
--- nor is one that interferes
-clash_behind : (t : TaskShape) (s : Sheet) (x : ℕ) (k : Kind) → IsFormed t s → Interfere t (kind_of s (Tok x)) k → 2 ≤ x
-clash_behind t s zero k f h = absurd (subst (λ j. Interfere t j k) f.start h)
-clash_behind t s (suc zero) k f h = absurd (subst (λ j. Interfere t j k) f.end h)
-clash_behind t s (suc (suc x)) k f h = omega arith
-
-lone_there : (s : Sheet) (x p y : ℕ) → cands s x p ≡ Tok y ∷ [] → has (Tok y) (cands s x p) ≡ true
-lone_there s x p y e = subst (λ cs. has (Tok y) cs ≡ true) (sym e) (or_left (same (Tok y) (Tok y)) (has (Tok y) []) (same_self (Tok y)))
+use Rattle.cpt_calculus.proofs.Parts.{same_self}
+use Rattle.cpt_calculus.proofs.Keeps.{place_after, place_ahead, place_clash}
+use Rattle.cpt_calculus.proofs.Reading.{clash_swap}
 
 choice_fits : (s : Sheet) (x p : ℕ) (c : Cand) → has c (cands s x p) ≡ true → Fits s (choice x p c)
 choice_fits s x p (Tok y) h = h
@@ -56,21 +38,9 @@ pub children_fit : (t : TaskShape) (s : Sheet) (flaw : Flaw) → IsFormed t s �
 children_fit t s (Threat x p e) f k d m =
     let y = k.0 in
     let w = k.1 in
-    let there = deleter_there t s e p w.deletes in
-    let late = deleter_behind t s e p f w.deletes in
-    let supply = f.supply x p (Tok y) (lone_there s x p y w.one) in
-    let lx = cand_there s x p (Tok y) (lone_there s x p y w.one) in
-    one_of_two (λ z. Fits s z) (Before e (only (cands s x p))) (Before x e) d
-    (subst (λ cs. IsPlaced s e (only cs)) (sym w.one) (record { first = there; second = supply.0; different = w.different; forward = λ q. (let q0 = q.0 in omega (arith, late, q0)) }))
-    (record { first = lx; second = there; different = λ q. w.other (sym q); forward = λ q. (let q1 = q.1 in omega (arith, late, q1)) })
-    m
+    one_of_two (λ z. Fits s z) (Before e (only (cands s x p))) (Before x e) d (subst (λ cs. IsPlaced s e (only cs)) (sym w.one) (place_ahead t s f x p e y w)) (place_after t s f x p e y w) m
 children_fit t s (OpenNeed x p) f k d m = let c = chosen x p (cands s x p) d m in subst (λ z. Fits s z) c.2 (choice_fits s x p c.0 c.1)
 children_fit t s (Clash x y) f k d m =
-    let lx = clash_there t s x (kind_of s (Tok y)) k.interfere in
-    let ly = clash_there_last t s y (kind_of s (Tok x)) k.interfere in
-    let two = clash_behind t s x (kind_of s (Tok y)) f k.interfere in
     let less = k.ordered in
-    one_of_two (λ z. Fits s z) (Before x y) (Before y x) d
-    (record { first = lx; second = ly; different = λ q. omega (arith, less, q); forward = λ q. (let q0 = q.0 in omega (arith, two, q0)) })
-    (record { first = ly; second = lx; different = λ q. omega (arith, less, q); forward = λ q. (let q1 = q.1 in omega (arith, two, q1)) })
-    m
+    one_of_two (λ z. Fits s z) (Before x y) (Before y x) d (place_clash t s f x y (λ q. omega (arith, less, q)) k.interfere)
+    (place_clash t s f y x (λ q. omega (arith, less, q)) (clash_swap t (kind_of s (Tok x)) (kind_of s (Tok y)) k.interfere)) m

@@ -29,7 +29,8 @@ use Rattle.cpt_soundness.specs.Acting.{IsAdmissible, kind_who, IsAhead}
 use Rattle.cpt_soundness.specs.Laws.{RootAdmits}
 use Rattle.cpt_soundness.proofs.PlanLemmas.{end_le, set_by, held, keeps_gaps, supplies_adds}
 use Rattle.cpt_soundness.proofs.ActingLemmas.{atom_there}
-use Rattle.cpt_soundness.proofs.AdderLemmas.{token_among, out_among, made_atoms, made_list}
+use Rattle.cpt_soundness.proofs.AdderLemmas.{token_among, out_among, made_list}
+use Rattle.cpt_calculus.proofs.Adders.{atoms_made}
 
 pub count_outs : (t : TaskShape) (b : Tables) (m n : ℕ) → length (outs_at_root t b m n) ≡ n
 count_outs t b m zero = refl
@@ -113,7 +114,7 @@ module _ (t : TaskShape) (b : Tables) (m : ℕ) (plan : List Occ) (f : ℕ → �
       Supplies t plan p (begins t plan (who f (root_of t b m) x)) w → has c (cands (root_of t b m) x p) ≡ true
   supplied zero p n c w k sup = cc
   supplied (suc zero) p n c w k sup =
-      let needed : Contains t.goal p = subst (λ ps. Contains ps p) (made_atoms t (bare_root t b m) t.goal) (atom_there p (map (need_for t (bare_root t b m)) t.goal) n) in
+      let needed : Contains t.goal p = subst (λ ps. Contains ps p) (atoms_made t (bare_root t b m) t.goal) (atom_there p (map (need_for t (bare_root t b m)) t.goal) n) in
       subst (λ cs. has c cs ≡ true) (sym (made_list t (bare_root t b m) p t.goal n))
       (goal_list p n c w k sup (supplies_adds t plan ok.bounds valid p (makespan t plan) w (held t plan ok.bounds valid finish p tt needed) sup))
   supplied (suc (suc x)) p n c w k sup = cc

@@ -1,12 +1,11 @@
 -- each legal step leaves less room
-use Rattle.std.proofs.Common.{◌≡◌, ◌≢◌, ℕ, suc, zero, ◌+◌, ◌-◌, ◌≤◌, ◌<◌, List, [], ◌∷◌, Bool, true, false, ◌||◌, ◌&&◌, ◌==◌, if◌then◌else◌, length, set, get_or, slice_get, unwrap_or, refl, sym, ◌∙◌, ap, subst, arith, inl, inr, ◌⊎◌, length-set, sum_by}
-use Rattle.std.proofs.lemmas.Bool.{cases_lt, cases_Bool, or_right, both_ways, and_from, eq-eqb, or_left}
+use Rattle.std.proofs.Common.{◌≡◌, ℕ, suc, zero, ◌≤◌, ◌<◌, List, [], ◌∷◌, Bool, true, false, ◌&&◌, ◌==◌, if◌then◌else◌, length, refl, sym, ◌∙◌, ap, subst, arith, inl, inr, length-set, sum_by}
+use Rattle.std.proofs.lemmas.Bool.{cases_lt, or_right, both_ways, and_from, eq-eqb, or_left}
 use Rattle.std.proofs.lemmas.List.Sums.{sum_by-set, sum_by-cons}
 use Rattle.std.proofs.lemmas.Option.{unwrap_or-slice_get}
 use Rattle.cpt_task.specs.declared.span.Span.{Span}
 use Rattle.cpt_task.specs.declared.span.Span.TheVariants.{At, Never}
 use Rattle.cpt_task.specs.Shape.{TaskShape}
-use Rattle.cpt_tables.specs.declared.tables.Tables.{Tables}
 use Rattle.cpt_tables.specs.Spans.{◌<ˢ◌, IsBelow}
 use Rattle.cpt_sheet.specs.declared.data.Cand.{Cand}
 use Rattle.cpt_sheet.specs.declared.data.Cand.TheVariants.{Tok, Out}
@@ -14,17 +13,15 @@ use Rattle.cpt_sheet.specs.declared.data.Interval.{Interval}
 use Rattle.cpt_sheet.specs.declared.data.Need.{Need}
 use Rattle.cpt_sheet.specs.declared.data.Token.{Token}
 use Rattle.cpt_sheet.specs.declared.data.Sheet.{Sheet}
-use Rattle.cpt_sheet.specs.declared.data.Step.{Step}
-use Rattle.cpt_sheet.specs.declared.data.Change.{Change}
 use Rattle.cpt_sheet.specs.declared.data.Change.TheVariants.{Raise, Lower, Take, Post}
-use Rattle.cpt_sheet.specs.View.{lo, hi, span_of, token_at, no_token, no_span, has, cands, list_for, before}
+use Rattle.cpt_sheet.specs.View.{lo, hi, span_of, token_at, no_token, no_span, has, list_for, before}
 use Rattle.cpt_sheet.specs.Edits.{changed, with_span, with_token, without, revised, moment_or}
 use Rattle.cpt_sheet.specs.Formed.{IsFormed}
 use Rattle.cpt_sheet.proofs.FormedLemmas.{lo_below}
-use Rattle.cpt_calculus.specs.Rules.{IsLegal, Moves, change_of, narrowed}
+use Rattle.cpt_calculus.specs.Rules.{change_of}
 use Rattle.cpt_calculus.proofs.Parts.{without_shorter}
 use Rattle.cpt_calculus.proofs.Below.{list_cons, order_posted}
-use Rattle.cpt_steps.specs.Landing.{IsThere, CanMake}
+use Rattle.cpt_steps.specs.Landing.{IsThere}
 use Rattle.cpt_steps.specs.Room.{span_room, interval_room, token_room, sum_below, order_room, orders_room, room, ChangesLessen, StepsLessen}
 use Rattle.cpt_steps.proofs.LandingLemmas.{need_there, steps_can_be_made}
 

@@ -1,9 +1,5 @@
 -- runs of steps
-use Rattle.std.proofs.Common.{◌≡◌, ℕ, true, List, [], ◌∷◌, ◌++◌, refl, sym, subst}
-use Rattle.cpt_task.specs.Shape.{TaskShape}
-use Rattle.cpt_tables.specs.declared.tables.Tables.{Tables}
-use Rattle.cpt_sheet.specs.declared.data.Sheet.{Sheet}
-use Rattle.cpt_sheet.specs.declared.data.Step.{Step}
+use Rattle.std.proofs.Common.{[], ◌∷◌, refl, subst}
 use Rattle.cpt_calculus.specs.Rules.{narrowed}
 use Rattle.cpt_calculus.specs.Closing.{Leads}
 use Rattle.cpt_steps.specs.Tight.{RunsTight, TightRunsLead, RunsAppend, TightRunsAppend, TightRunsGrow}

@@ -1,10 +1,7 @@
 -- the very values of the rows
-use Rattle.std.proofs.Common.{◌≡◌, ◌≢◌, ℕ, suc, zero, ◌+◌, ◌-◌, ◌≤◌, ◌<◌, nat_lt, lit≤, List, [], ◌∷◌, Bool, true, false, ◌||◌, if◌then◌else◌, length, get_or, All, Contains, refl, sym, ◌∙◌, ap, subst, arith, nat_eq, inl, inr, ◌⊎◌}
+use Rattle.std.proofs.Common.{◌≡◌, ℕ, ◌≤◌, ◌<◌, nat_lt, lit≤, List, [], ◌∷◌, Bool, true, false, if◌then◌else◌, length, get_or, All, refl, sym, ◌∙◌, ap, subst, arith, inl, inr}
 use Rattle.std.specs.List.{AllByRecursion as ByRecursion}
-use Rattle.std.proofs.lemmas.Bool.{cases_lt, cases_Bool, ltb-true, or_left, or_right, eqb-true, both_ways}
-use Rattle.std.proofs.lemmas.Map.Views.{Contains-from_any, list_any-from_Contains}
-use Rattle.std.specs.Cmp.{nat_eq_equiv}
-use Rattle.cpt_task.specs.Timeline.{is_in}
+use Rattle.std.proofs.lemmas.Bool.{cases_lt, ltb-true, or_left, or_right}
 use Rattle.std.proofs.lemmas.Option.{unwrap_or-slice_get}
 use Rattle.std.proofs.lemmas.List.{get_or_default}
 use Rattle.std.proofs.lemmas.List.Elements.{recursion_from_All, All-from_recursion}
@@ -12,7 +9,7 @@ use Rattle.cpt_task.specs.declared.span.Span.{Span}
 use Rattle.cpt_task.specs.declared.span.Span.TheVariants.{At, Never}
 use Rattle.cpt_task.specs.Shape.{TaskShape, InBounds}
 use Rattle.cpt_tables.specs.declared.tables.Tables.{Tables}
-use Rattle.cpt_tables.specs.Spans.{◌≤ˢ◌, ◌<ˢ◌, ◌+ˢ◌, span_min, IsBelow}
+use Rattle.cpt_tables.specs.Spans.{◌≤ˢ◌, ◌+ˢ◌, span_min, IsBelow}
 use Rattle.cpt_tables.specs.Shapes.{most_dist, set_span_of}
 use Rattle.cpt_tables.specs.Admissible.{nth_action}
 use Rattle.cpt_tables.proofs.SpanLemmas.{le_refl, le_trans, le_lt, le_antisym, le_cases, lt_not_le, min_le_left, min_le_right, below_add, below_more}
@@ -24,33 +21,19 @@ use Rattle.cpt_sheet.specs.declared.data.Token.{Token}
 use Rattle.cpt_sheet.specs.declared.data.Sheet.{Sheet}
 use Rattle.cpt_sheet.specs.declared.data.Step.{Step}
 use Rattle.cpt_sheet.specs.declared.data.Step.TheVariants.{R1, R2, R3, R4, R5, R6, R7, R8, R9After, R9Ahead, R10, R11After, R11Ahead, R12After, R12Ahead, R13}
-use Rattle.cpt_sheet.specs.Roles.{needs_of, adds_of, Adds, Clash}
-use Rattle.cpt_sheet.specs.View.{lo, hi, span_of, kind_of, cands, has, has_need, same, token_at, no_token, before}
+use Rattle.cpt_sheet.specs.Roles.{needs_of, adds_of, Clash}
+use Rattle.cpt_sheet.specs.View.{lo, hi, span_of, kind_of, cands, has, same, no_token}
 use Rattle.cpt_sheet.specs.Gaps.{FitsTask, reach, gap, arrival, deadline}
-use Rattle.cpt_sheet.specs.Live.{IsLive, IsLiveToken, IsOpen}
+use Rattle.cpt_sheet.specs.Live.{IsLive, IsOpen}
 use Rattle.cpt_sheet.specs.Formed.{IsFormed}
 use Rattle.cpt_sheet.proofs.GapLemmas.{needs_within, dist_below, set_below, dur_below}
 use Rattle.cpt_sheet.proofs.FormedLemmas.{at_past}
-use Rattle.cpt_calculus.specs.Rules.{only, IsToken, IsLegal, IsBeforeToken, IsBeforeTokens, IsBeforeOut, IsBeforeOuts}
+use Rattle.cpt_calculus.specs.Rules.{only, IsLegal}
 use Rattle.cpt_steps.specs.Tight.{with_value, IsGreatest, IsBeforeAll, IsBeforeAdders, IsTight, ArrivalsFit, GapsAreSmall, LiveArrivalsFit, TightValues, OneTightValue}
 use Rattle.cpt_steps.proofs.LeastLemmas.{least_by, least_each, le_min, below_min, least_over, least_below, least_upto, upto_each, upto_over, upto_below, pick, under, over, below_pick}
 use Rattle.cpt_calculus.proofs.Parts.{same_self}
+pub use Rattle.cpt_calculus.proofs.Reading.{lt_le, in_or_not}
 use Rattle.cpt_steps.proofs.LandingLemmas.{need_there, token_there}
-
-pub lt_le : (a b c : Span) → a <ˢ b → b ≤ˢ c → a <ˢ c
-lt_le (At a) (At b) (At c) h k = omega arith
-lt_le (At a) (At b) Never h k = tt
-lt_le (At a) Never (At c) h k = absurd k
-lt_le (At a) Never Never h k = tt
-lt_le Never b c h k = absurd h
-
--- an atom is in a list or not
-pub in_or_not : (p : ℕ) (xs : List ℕ) → Contains xs p ⊎ (Contains xs p → ⊥)
-in_or_not p xs =
-    elim (cases_Bool (is_in p xs)) [
-      | inl e ↦ inl (Contains-from_any {eq = nat_eq} (λ x y h. eqb-true x y h) p xs e)
-      | inr e ↦ inr (λ h. both_ways (is_in p xs) e (list_any-from_Contains nat_eq_equiv p xs h))
-    ]
 
 -- how large a gap is at most
 reach_small : (t : TaskShape) (b : Tables) (j : Kind) (ps : List ℕ) → FitsTask t b → InBounds t → All (λ p. p < length t.atoms) ps → IsBelow 1000000000100001 (reach t b j ps)

@@ -1,20 +1,21 @@
-use Rattle.std.specs.Prelude.{◌≡◌, ℕ, ◌<◌, true, false, List, length}
-use Rattle.cpt_task.specs.declared.span.Span.{Span}
+use Rattle.std.specs.Prelude.{◌≡◌, ℕ, ◌<◌, true, false, List, length, slice_get, unwrap_or}
 use Rattle.cpt_task.specs.declared.span.Span.TheVariants.{At}
 use Rattle.cpt_task.specs.Shape.{TaskShape}
 use Rattle.cpt_tables.specs.declared.tables.Tables.{Tables}
 use Rattle.cpt_tables.specs.Spans.{◌<ˢ◌, IsBelow}
 use Rattle.cpt_sheet.specs.declared.data.Cand.{Cand}
 use Rattle.cpt_sheet.specs.declared.data.Cand.TheVariants.{Tok, Out}
+use Rattle.cpt_sheet.specs.declared.data.Need.{Need}
 use Rattle.cpt_sheet.specs.declared.data.Sheet.{Sheet}
 use Rattle.cpt_sheet.specs.declared.data.Step.{Step}
 use Rattle.cpt_sheet.specs.declared.data.Change.{Change}
 use Rattle.cpt_sheet.specs.declared.data.Change.TheVariants.{Raise, Lower, Take, Post}
-use Rattle.cpt_sheet.specs.View.{lo, hi, has, has_need, cands, before}
+use Rattle.cpt_sheet.specs.View.{lo, hi, has, has_need, cands, before, list_for, no_need, token_at}
 use Rattle.cpt_sheet.specs.Formed.{IsFormed, IsPlaced}
 use Rattle.cpt_sheet.specs.Below.{IsBelowSheet}
 use Rattle.cpt_calculus.specs.Rules.{IsLegal, Moves, change_of, narrowed, is_of}
 use Rattle.cpt_calculus.specs.Closing.{IsClosed}
+use Rattle.cpt_calculus.specs.Places.{IsPlaceFor}
 
 -- where a change lands: at the token or outside action whose interval it changes, at the token whose list it
 -- changes, or at the first token of the order
@@ -66,3 +67,17 @@ SameChange = (s : Sheet) (step : Step) → change_of (narrowed s step) step ≡ 
 -- what narrows a sheet narrows each sheet above it
 abbrev pub MovesAbove : Type 0
 MovesAbove = (a b : Sheet) → IsBelowSheet a b → (ch : Change) → Moves b ch → Moves a ch
+
+-- the place of the first precondition that is the atom, with its list
+pub record IsNeedAt (ns : List Need) (p j : ℕ) : Type 0 where
+  pub there : j < length ns
+  pub place : IsPlaceFor ns p j
+  pub list : (unwrap_or (slice_get ns j) no_need).cands ≡ list_for p ns
+
+-- an atom that a token needs has its place among the preconditions
+abbrev pub NeedsHavePlaces : Type 0
+NeedsHavePlaces = (s : Sheet) (x p : ℕ) → has_need s x p ≡ true → (j : ℕ) × IsNeedAt (token_at s x).lists p j
+
+-- and so has an atom for which a candidate is listed
+abbrev pub ListedHavePlaces : Type 0
+ListedHavePlaces = (s : Sheet) (x p : ℕ) (c : Cand) → has c (cands s x p) ≡ true → (j : ℕ) × IsNeedAt (token_at s x).lists p j

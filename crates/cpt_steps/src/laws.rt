@@ -1,6 +1,6 @@
 //! Laws of legal steps: their contracts are what they say, and their bodies are empty.
 
-ghost use Rattle.cpt_steps.specs.Landing.{ClosedWhereAll, LandsThere, MovesAbove, SameChange, StepsCanBeMade};
+ghost use Rattle.cpt_steps.specs.Landing.{ClosedWhereAll, LandsThere, ListedHavePlaces, MovesAbove, NeedsHavePlaces, SameChange, StepsCanBeMade};
 ghost use Rattle.cpt_steps.specs.Room.{ChangesLessen, StepsLessen};
 ghost use Rattle.cpt_steps.specs.Tight.{GapsAreSmall, LiveArrivalsFit, OneTightValue, RunsAppend, TightRunsAppend, TightRunsGrow, TightRunsLead, TightValues};
 
@@ -58,6 +58,16 @@ pub fn closed_where_all()
 /// tokens, whose order does not stand yet.
 pub fn steps_can_be_made()
     ensures { StepsCanBeMade }
+{}
+
+/// An atom that a token needs has its place among the preconditions, with the list of its candidates.
+pub fn needs_have_places()
+    ensures { NeedsHavePlaces }
+{}
+
+/// So has an atom for which a candidate is listed.
+pub fn listed_have_places()
+    ensures { ListedHavePlaces }
 {}
 
 /// The change of a step is the same read before and after it.

@@ -30,8 +30,8 @@ use Rattle.cpt_calculus.specs.Decisions.{applied, beside, behind_tokens, need_fo
 use Rattle.cpt_calculus.proofs.Parts.{same_self}
 use Rattle.cpt_steps.specs.Landing.{LandsAt}
 use Rattle.cpt_waking.specs.Waking.{BringWakes}
-use Rattle.cpt_steps.proofs.BringViews.{beside_old, bring_count, bring_token, bring_kind, bring_span, bring_need, bring_cands}
-use Rattle.cpt_steps.proofs.LandingLemmas.{need_there, token_there, deletes_there}
+use Rattle.cpt_calculus.proofs.Brings.{beside_old, bring_count, bring_token, bring_kind, bring_span, bring_need, bring_cands}
+use Rattle.cpt_calculus.proofs.Reading.{need_there, token_there, deletes_there}
 
 -- a list with the offer that is one token is the old one
 beside_one : (a n z : ℕ) (cs : List Cand) → beside a n cs ≡ Tok z ∷ [] → cs ≡ Tok z ∷ []

@@ -1,7 +1,7 @@
 -- a step that is legal after a change, and of whose condition the change touches nothing, was legal before
-use Rattle.std.proofs.Common.{◌≡◌, ◌≢◌, ℕ, zero, suc, ◌<◌, List, [], ◌∷◌, length, Bool, true, false, nat_eq, Contains, MatchBool, refl, sym, ◌∙◌, ap, subst, inl, inr, ◌⊎◌, arith}
+use Rattle.std.proofs.Common.{◌≡◌, ◌≢◌, ℕ, zero, suc, ◌<◌, List, [], ◌∷◌, length, Bool, true, false, MatchBool, refl, sym, ◌∙◌, ap, subst, inl, inr, ◌⊎◌, arith}
 use Rattle.std.specs.List.{All, AllByRecursion as ByRecursion}
-use Rattle.std.proofs.lemmas.Bool.{cases_Bool, cases_lt, both_ways, or_left, or_right, or_cases, eqb-true}
+use Rattle.std.proofs.lemmas.Bool.{cases_lt, both_ways, or_left, or_right, or_cases}
 use Rattle.std.proofs.lemmas.List.Elements.{recursion_from_All, All-from_recursion}
 use Rattle.cpt_task.specs.declared.span.Span.{Span}
 use Rattle.cpt_task.specs.declared.span.Span.TheVariants.{At}
@@ -38,12 +38,9 @@ use Rattle.cpt_waking.specs.Touching.Hinders.{raised, lowered, turned}
 use Rattle.std.proofs.lemmas.Option.{unwrap_or-slice_get}
 use Rattle.std.proofs.lemmas.List.{get_or_default}
 use Rattle.std.proofs.lemmas.List.Elements.{length_all_zip}
-use Rattle.std.proofs.lemmas.Map.Views.{Contains-from_any, list_any-from_Contains}
 use Rattle.cpt_sheet.specs.Below.{TokenBelow}
 use Rattle.cpt_sheet.specs.Roles.{adds_of}
-use Rattle.cpt_task.specs.Timeline.{is_in}
-use Rattle.std.specs.Cmp.{nat_eq_equiv}
-use Rattle.cpt_steps.proofs.TightLemmas.{in_or_not}
+use Rattle.cpt_calculus.proofs.Reading.{in_or_not}
 use Rattle.cpt_waking.proofs.RuleLemmas.{is_of_both}
 use Rattle.cpt_waking.proofs.TableLemmas.{wakes_by_table}
 use Rattle.cpt_waking.proofs.ReadLemmas.{lo_kept, hi_kept, list_kept, ordered_kept}

@@ -1,10 +1,6 @@
 -- what is read after a change is what was read before, but for what the change touches
-use Rattle.std.proofs.Common.{◌≡◌, ℕ, ◌≤◌, ◌||◌, ◌&&◌, ◌==◌, refl, sym, ◌∙◌, ap, inl, inr, ◌⊎◌, arith}
+use Rattle.std.proofs.Common.{◌≡◌, ℕ, ◌||◌, ◌&&◌, ◌==◌, refl, sym, ◌∙◌, ap, inl, inr, ◌⊎◌}
 use Rattle.std.proofs.lemmas.Bool.{cases_Bool, and_parts, eqb-true}
-use Rattle.cpt_task.specs.declared.span.Span.{Span}
-use Rattle.cpt_task.specs.declared.span.Span.TheVariants.{At, Never}
-use Rattle.cpt_tables.specs.Spans.{◌<ˢ◌}
-use Rattle.cpt_tables.proofs.SpanLemmas.{le_lt}
 use Rattle.cpt_sheet.specs.declared.data.Cand.{Cand}
 use Rattle.cpt_sheet.specs.declared.data.Cand.TheVariants.{Tok, Out}
 use Rattle.cpt_sheet.specs.declared.data.Interval.{Interval}
@@ -14,10 +10,7 @@ use Rattle.cpt_sheet.specs.declared.data.Change.TheVariants.{Raise, Lower, Take,
 use Rattle.cpt_sheet.specs.View.{lo, hi, span_of, cands, before, list_for, has_order}
 use Rattle.cpt_sheet.specs.Gaps.{ordered}
 use Rattle.cpt_sheet.specs.Edits.{changed, without, moment_or}
-use Rattle.cpt_sheet.specs.Below.{IsBelowSheet}
-use Rattle.cpt_calculus.specs.Rules.{Moves}
-use Rattle.cpt_calculus.proofs.Parts.{Part-has}
-use Rattle.cpt_calculus.proofs.Below.{los, his, parts, order_posted}
+use Rattle.cpt_calculus.proofs.Below.{order_posted}
 use Rattle.cpt_calculus.proofs.Views.{span_with, lists_with_span, orders_with_span, span_with_list, cands_with_list}
 use Rattle.cpt_waking.specs.Touching.{Raises, Lowers, Takes, Posts}
 

@@ -1,5 +1,5 @@
 -- the turn of an engine
-use Rattle.std.proofs.Common.{◌≡◌, ℕ, ◌<◌, length, inl, inr, refl, sym, subst}
+use Rattle.std.proofs.Common.{◌<◌, inl, inr, refl, sym, subst}
 use Rattle.std.proofs.lemmas.List.Elements.{length_all_zip}
 use Rattle.cpt_task.specs.Shape.{TaskShape}
 use Rattle.cpt_tables.specs.declared.tables.Tables.{Tables}

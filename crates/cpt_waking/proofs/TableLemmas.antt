@@ -1,24 +1,22 @@
 -- whom a change can wake
-use Rattle.std.proofs.Common.{◌≡◌, ◌≢◌, ℕ, List, true, false, refl, sym, ◌∙◌, ap, subst, inl, inr, ◌⊎◌}
-use Rattle.std.proofs.lemmas.Bool.{or_left}
+use Rattle.std.proofs.Common.{◌≡◌, ◌≢◌, ℕ, true, refl, sym, ◌∙◌, ap, subst, inl, inr, ◌⊎◌}
 use Rattle.cpt_task.specs.declared.span.Span.{Span}
 use Rattle.cpt_task.specs.Shape.{TaskShape}
 use Rattle.cpt_tables.specs.declared.tables.Tables.{Tables}
 use Rattle.cpt_sheet.specs.declared.data.Cand.{Cand}
 use Rattle.cpt_sheet.specs.declared.data.Cand.TheVariants.{Tok, Out}
-use Rattle.cpt_sheet.specs.declared.data.Kind.{Kind}
-use Rattle.cpt_sheet.specs.declared.data.Kind.TheVariants.{Start, End, Act}
+use Rattle.cpt_sheet.specs.declared.data.Kind.TheVariants.{Act}
 use Rattle.cpt_sheet.specs.declared.data.Sheet.{Sheet}
 use Rattle.cpt_sheet.specs.declared.data.Step.{Step}
 use Rattle.cpt_sheet.specs.declared.data.Step.TheVariants.{R1, R2, R3, R4, R5, R6, R7, R8, R9After, R9Ahead, R10, R11After, R11Ahead, R12After, R12Ahead, R13}
 use Rattle.cpt_sheet.specs.declared.data.Change.{Change}
 use Rattle.cpt_sheet.specs.declared.data.Change.TheVariants.{Raise, Lower, Take, Post}
 use Rattle.cpt_sheet.specs.Roles.{Clash}
-use Rattle.cpt_sheet.specs.View.{kind_of, cands, has, same}
+use Rattle.cpt_sheet.specs.View.{kind_of, cands, has}
 use Rattle.cpt_sheet.specs.Formed.{IsFormed}
 use Rattle.cpt_calculus.specs.Rules.{IsToken, only, IsStep1, IsStep2, IsStep3, IsStep4, IsListed, IsStep5, IsStep6, IsStep7, IsStep8, IsThreatOf, IsStep10, IsOutsideThreat, IsStep13, Allowed, change_of}
-use Rattle.cpt_calculus.proofs.Parts.{same_self}
 use Rattle.cpt_steps.specs.Landing.{subject_of}
+pub use Rattle.cpt_calculus.proofs.Reading.{clash_swap, one_listed, tok_is}
 use Rattle.cpt_waking.specs.Touching.{Raises, Lowers, Takes, Posts, Hinders, Shortens, Parts, RaisesListed, RaisesAdder, LosesAdder, Touches}
 use Rattle.cpt_waking.specs.Waking.{Feeds, TakenWakes, CanWake, WakesByTable}
 use Rattle.cpt_waking.specs.Touching.Hinders.{raised, lowered, turned}
@@ -28,21 +26,11 @@ use Rattle.cpt_waking.specs.Waking.LoweredWakes.{behind, feeds as lowered_feeds,
 use Rattle.cpt_waking.specs.Waking.LoweredWakesOut.{clash as lowered_clash, loses}
 
 -- the one token of a list is a candidate, and adds the atom
-lone_listed : (u : Sheet) (x p y : ℕ) → IsToken (cands u x p) y → has (Tok y) (cands u x p) ≡ true
-lone_listed u x p y e = subst (λ (l : List Cand). has (Tok y) l ≡ true) (sym e) (or_left (same (Tok y) (Tok y)) false (same_self (Tok y)))
-
 pub only_listed : (u : Sheet) (x p y : ℕ) → IsToken (cands u x p) y → has (Tok (only (cands u x p))) (cands u x p) ≡ true
-only_listed u x p y e = subst (λ z. has (Tok z) (cands u x p) ≡ true) (sym (ap (λ l. only l) e)) (lone_listed u x p y e)
+only_listed u x p y e = subst (λ z. has (Tok z) (cands u x p) ≡ true) (sym (ap (λ l. only l) e)) (one_listed u x p y e)
 
 pub only_one : (u : Sheet) (x p y : ℕ) → IsToken (cands u x p) y → IsToken (cands u x p) (only (cands u x p))
 only_one u x p y e = subst (λ z. IsToken (cands u x p) z) (sym (ap (λ l. only l) e)) e
-
-pub clash_swap : (t : TaskShape) (j k : Kind) → Clash t j k → Clash t k j
-clash_swap t (Act a) (Act b) h = record { first = h.second; second = h.first; interfere = record { interfere = elim h.interfere.interfere [ inl e ↦ inr e | inr e ↦ inl e ] } }
-clash_swap t (Act a) Start h = absurd h
-clash_swap t (Act a) End h = absurd h
-clash_swap t Start k h = absurd h
-clash_swap t End k h = absurd h
 
 -- which change it is
 raise_is : (ch : Change) (c : Cand) → Raises ch c → (v : Span) × (ch ≡ Raise c v)
@@ -63,14 +51,11 @@ take_is (Lower d v) x p h = absurd h
 take_is (Take y q d) x p h = (d, ap (λ z. Take z q d) h.0 ∙ ap (λ z. Take x z d) h.1)
 take_is (Post y z) x p h = absurd h
 
-tok_back : (x y : ℕ) → Tok x ≡ Tok y → x ≡ y
-tok_back x y e = cc
-
 post_is : (ch : Change) (x y : ℕ) → Posts ch (Tok x) (Tok y) → ch ≡ Post x y
 post_is (Raise d v) x y h = absurd h
 post_is (Lower d v) x y h = absurd h
 post_is (Take z p d) x y h = absurd h
-post_is (Post a b) x y h = ap (λ z. Post z b) (tok_back a x h.0) ∙ ap (λ z. Post x z) (tok_back b y h.1)
+post_is (Post a b) x y h = ap (λ z. Post z b) (tok_is a x h.0) ∙ ap (λ z. Post x z) (tok_is b y h.1)
 
 posts_first : (ch : Change) (a : ℕ) (d : Cand) → Posts ch (Out a) d → ⊥
 posts_first (Raise e v) a d h = h

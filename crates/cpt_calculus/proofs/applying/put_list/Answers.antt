@@ -1,6 +1,5 @@
-use Rattle.std.proofs.Common.{arith, sym, subst, ap, refl, ◌≡◌, ◌<◌, ◌≤◌, List, length}
+use Rattle.std.proofs.Common.{arith, sym, subst, ap, refl, ◌<◌, ◌≤◌, List, length}
 use Rattle.std.proofs.lemmas.Option.{get_or_from_slice_get}
-use Rattle.cpt_sheet.specs.declared.data.Cand.{Cand}
 use Rattle.cpt_sheet.specs.declared.data.Need.{Need}
 use Rattle.cpt_calculus.specs.Places.{IsPlaceFor}
 use Rattle.cpt_calculus.proofs.Takes.{revised_at, not_there}

@@ -1,4 +1,4 @@
-use Rattle.std.proofs.Common.{rules, arith, ◌≡◌, true, sym}
+use Rattle.std.proofs.Common.{rules, arith, sym}
 use Rattle.cpt_calculus.proofs.Inserts.{inserted_at, inserted_end}
 use Rattle.cpt_calculus.proofs.narrowing.place_of.Goals as goal
 

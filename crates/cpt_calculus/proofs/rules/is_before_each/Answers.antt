@@ -1,4 +1,4 @@
-use Rattle.std.proofs.Common.{arith, subst}
+use Rattle.std.proofs.Common.{subst}
 use Rattle.cpt_tables.specs.Spans.{◌≤ˢ◌}
 use Rattle.cpt_task.specs.declared.span.Span.{Span}
 use Rattle.cpt_sheet.specs.declared.data.Cand.TheVariants.{Tok}
