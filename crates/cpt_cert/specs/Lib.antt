@@ -1,6 +1,6 @@
-pub mod Forms
-pub mod Items
-pub mod Lines
-pub mod Reading
-pub mod Text
-pub mod Whole
+pub use Rattle.cpt_cert_form.specs.Forms
+pub use Rattle.cpt_cert_form.specs.Text
+pub use Rattle.cpt_cert_read.specs.Lines
+pub use Rattle.cpt_cert_read.specs.Reading
+pub use Rattle.cpt_cert_read.specs.Texts
+pub use Rattle.cpt_cert_print.specs.Whole

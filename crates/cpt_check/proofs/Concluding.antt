@@ -3,18 +3,18 @@ use Rattle.std.proofs.Common.{◌≡◌, ◌≢◌, ℕ, ◌+◌, ◌<◌, ◌�
 use Rattle.std.proofs.lemmas.Bool.{cases_lt}
 use Rattle.std.specs.List.{AllZip}
 use Rattle.cpt_task.specs.Shape.{TaskShape}
-use Rattle.cpt_cert.specs.declared.forms.Version.{Version}
-use Rattle.cpt_cert.specs.declared.forms.Claim.{Claim}
-use Rattle.cpt_cert.specs.declared.forms.CertLine.{CertLine}
-use Rattle.cpt_cert.specs.declared.forms.CertLine.TheVariants as lines
-use Rattle.cpt_cert.specs.Forms.{IsReadAs}
-use Rattle.cpt_cert.specs.Lines.{kept}
-use Rattle.cpt_cert.proofs.Enough.{kept_nothing}
+use Rattle.cpt_cert_form.specs.declared.forms.Version.{Version}
+use Rattle.cpt_cert_form.specs.declared.forms.Claim.{Claim}
+use Rattle.cpt_cert_form.specs.declared.forms.CertLine.{CertLine}
+use Rattle.cpt_cert_form.specs.declared.forms.CertLine.TheVariants as lines
+use Rattle.cpt_cert_form.specs.Forms.{IsReadAs}
+use Rattle.cpt_cert_read.specs.Lines.{kept}
+use Rattle.cpt_cert_read.proofs.Enough.{kept_nothing}
 use Rattle.cpt_verdict.specs.declared.faults.Why.{Why}
 use Rattle.cpt_verdict.specs.declared.faults.Why.TheVariants as whys
 use Rattle.cpt_verdict.specs.Reading.Outcome.{went, faulted}
 use Rattle.cpt_verdict.specs.Descent.{ReadsAll}
-use Rattle.cpt_verdict.specs.Texts.{ended, unended, AreLinesOf}
+use Rattle.cpt_cert_read.specs.Texts.{ended, unended, AreLinesOf}
 use Rattle.cpt_sections.specs.declared.section.Stage.{Stage}
 use Rattle.cpt_sections.specs.Stages.{LeftOf, version_in, version_at, Ends}
 use Rattle.cpt_check.specs.declared.past.Past.{Past}
@@ -22,10 +22,11 @@ use Rattle.cpt_check.specs.declared.past.Fault.{Fault}
 use Rattle.cpt_check.specs.Judging.{IsFront, StandsIn, IsVersionOf, IsRejected, IsTooLong}
 use Rattle.cpt_check.specs.Progress.{IsRead, IsFoundAt, Concludes}
 use Rattle.cpt_check.proofs.Lines.{last_apart, first_names}
-use Rattle.cpt_check.proofs.Splits.{zip_length, front_lines, front_first, front_within}
+use Rattle.cpt_cert_read.proofs.Splits.{zip_length}
+use Rattle.cpt_check.proofs.Splits.{front_lines, front_first, front_within}
 
-text_lines : (t : TaskShape) (text : List ℕ) (p : Past) (pending : List ℕ) → (h : IsRead t text p pending) → AreLinesOf text (h.read ++ unended h.tail)
-text_lines t text p pending h = record { bodies = h.bodies; tail = h.tail; read = h.read; split = h.split; each = h.each; all = refl }
+text_lines : (t : TaskShape) (text : List ℕ) (p : Past) (pending : List ℕ) → (h : IsRead t text p pending) → AreLinesOf text (h.read ++ unended h.finished.tail)
+text_lines t text p pending h = record { bodies = h.finished.bodies; tail = h.finished.tail; read = h.read; split = h.finished.split; each = h.finished.each; all = refl }
 
 -- a line without its line feed comes behind
 strange_end : (t : TaskShape) (s : Stage) (n : ℕ) (o : Option (Version × Claim)) → Ends t s n o → LeftOf t s n (lines.Strange ∷ []) (faulted n whys.Grammar)
@@ -33,7 +34,7 @@ strange_end t s n None h = h (lines.Strange ∷ []) tt
 strange_end t s n (Some claimed) h = h.1 []
 
 pub ends_early : (t : TaskShape) (text : List ℕ) (p : Past) (pending : List ℕ) (o : Option (Version × Claim)) → (h : IsRead t text p pending) → Ends t p.stage (length h.read + 1) o → pending ≢ [] → Concludes t text p.count None
-ends_early t text p pending o h ends some = (h.read ++ unended h.tail, text_lines t text p pending h, subst (λ z. ReadsAll t (h.read ++ unended h.tail) (faulted (z + 1) whys.Grammar)) (sym h.past.count) (go h.tail h.enough))
+ends_early t text p pending o h ends some = (h.read ++ unended h.finished.tail, text_lines t text p pending h, subst (λ z. ReadsAll t (h.read ++ unended h.finished.tail) (faulted (z + 1) whys.Grammar)) (sym h.past.count) (go h.finished.tail h.finished.enough))
   where
     go : (tail : List ℕ) → pending ≡ kept tail → ReadsAll t (h.read ++ unended tail) (faulted (length h.read + 1) whys.Grammar)
     go [] e = absurd (some (e ∙ (kept_nothing []).1 refl))
@@ -42,17 +43,17 @@ ends_early t text p pending o h ends some = (h.read ++ unended h.tail, text_line
 pub ends_whole : (t : TaskShape) (text : List ℕ) (p : Past) (pending : List ℕ) (o : Option (Version × Claim)) → (h : IsRead t text p pending) → Ends t p.stage (length h.read + 1) o → pending ≡ [] → Concludes t text p.count o
 ends_whole t text p pending o h ends none = go o ends
   where
-    same : h.read ++ [] ≡ h.read ++ unended h.tail
-    same = ap (λ z. h.read ++ unended z) (sym ((kept_nothing h.tail).0 (sym h.enough ∙ none)))
+    same : h.read ++ [] ≡ h.read ++ unended h.finished.tail
+    same = ap (λ z. h.read ++ unended z) (sym ((kept_nothing h.finished.tail).0 (sym h.finished.enough ∙ none)))
 
     go : (o : Option (Version × Claim)) → Ends t p.stage (length h.read + 1) o → Concludes t text p.count o
     go None k = (
-      h.read ++ unended h.tail,
+      h.read ++ unended h.finished.tail,
       text_lines t text p pending h,
-      subst (λ z. ReadsAll t (h.read ++ unended h.tail) (faulted (z + 1) whys.Grammar)) (sym h.past.count) (subst (λ z. ReadsAll t z (faulted (length h.read + 1) whys.Grammar)) same (h.past.reads [] (faulted (length h.read + 1) whys.Grammar) (k [] tt))),
+      subst (λ z. ReadsAll t (h.read ++ unended h.finished.tail) (faulted (z + 1) whys.Grammar)) (sym h.past.count) (subst (λ z. ReadsAll t z (faulted (length h.read + 1) whys.Grammar)) same (h.past.reads [] (faulted (length h.read + 1) whys.Grammar) (k [] tt))),
     )
     go (Some claimed) k = (
-      h.read ++ unended h.tail,
+      h.read ++ unended h.finished.tail,
       text_lines t text p pending h,
       (length h.read + 1, subst (λ z. ReadsAll t z (went claimed [] (length h.read + 1))) same (h.past.reads [] (went claimed [] (length h.read + 1)) k.0)),
     )
@@ -64,7 +65,7 @@ names_end [] (b ∷ tail) = refl
 names_end (r ∷ rs) tail = first_names r rs (rs ++ unended tail)
 
 pub version_at_end : (t : TaskShape) (text : List ℕ) (p : Past) (pending : List ℕ) (version : Option Version) → IsRead t text p pending → version ≡ version_at p.stage → IsVersionOf text version
-version_at_end t text p pending version h e = (h.read ++ unended h.tail, text_lines t text p pending h, e ∙ h.past.version ∙ names_end h.read h.tail)
+version_at_end t text p pending version h e = (h.read ++ unended h.finished.tail, text_lines t text p pending h, e ∙ h.past.version ∙ names_end h.read h.finished.tail)
 
 names_more : (read : List CertLine) (last : CertLine) (more : List CertLine) → version_in (read ++ last ∷ []) ≡ version_in ((read ++ last ∷ []) ++ more)
 names_more [] last more = first_names last [] more
@@ -73,7 +74,7 @@ names_more (r ∷ rs) last more = first_names r (rs ++ last ∷ []) ((rs ++ last
 -- no fault stands at the front of bytes that are read
 pub read_faultless : (t : TaskShape) (bytes : List ℕ) (p : Past) (pending : List ℕ) (n : ℕ) (ls : List CertLine) (line : ℕ) (why : Why) → IsRead t bytes p pending → IsFront bytes n ls → StandsIn t ls line why → ⊥
 read_faultless t bytes p pending n ls line why h f s =
-    let k = front_first bytes h.bodies h.tail h.read n ls h.split h.each f in h.past.faultless ls k.1 k.3 line why s
+    let k = front_first bytes h.finished.bodies h.finished.tail h.read n ls h.finished.split h.finished.each f in h.past.faultless ls k.1 k.3 line why s
 
 found_front : (t : TaskShape) (bytes more : List ℕ) (f : Fault) → (h : IsFoundAt t bytes f) → IsFront (bytes ++ more) (length bytes) (h.read ++ h.last ∷ [])
 found_front t bytes more f h = record {

@@ -1,7 +1,7 @@
 -- the bytes that a library gives, one piece behind another
 use Rattle.std.proofs.Common.{◌≡◌, ℕ, ◌+◌, ◌<◌, ◌≤◌, List, [], ◌∷◌, ◌++◌, length, take, Option, None, Some, Ok, Err, refl, sym, ap, ◌∙◌, subst, arith, append_assoc, append-nil, length-append}
 use Rattle.cpt_task.specs.Shape.{TaskShape}
-use Rattle.cpt_cert.specs.declared.forms.CertLine.{CertLine}
+use Rattle.cpt_cert_form.specs.declared.forms.CertLine.{CertLine}
 use Rattle.cpt_io.specs.Meaning.{Pulls}
 use Rattle.cpt_check.specs.declared.past.Fault.{Fault}
 use Rattle.cpt_check.specs.declared.past.Found.TheVariants as founds

@@ -1,10 +1,10 @@
 -- one line more behind lines in which no fault stands
 use Rattle.std.proofs.Common.{◌≡◌, ℕ, ◌+◌, ◌<◌, ◌≤◌, ◌⊎◌, inl, inr, List, [], ◌∷◌, ◌++◌, length, Option, None, Some, refl, sym, ◌∙◌, subst, arith, append_assoc, append-nil, length-append}
 use Rattle.cpt_task.specs.Shape.{TaskShape}
-use Rattle.cpt_cert.specs.declared.forms.Version.{Version}
-use Rattle.cpt_cert.specs.declared.forms.Claim.{Claim}
-use Rattle.cpt_cert.specs.declared.forms.CertLine.{CertLine}
-use Rattle.cpt_cert.specs.declared.forms.CertLine.TheVariants as lines
+use Rattle.cpt_cert_form.specs.declared.forms.Version.{Version}
+use Rattle.cpt_cert_form.specs.declared.forms.Claim.{Claim}
+use Rattle.cpt_cert_form.specs.declared.forms.CertLine.{CertLine}
+use Rattle.cpt_cert_form.specs.declared.forms.CertLine.TheVariants as lines
 use Rattle.cpt_verdict.specs.declared.faults.Why.{Why}
 use Rattle.cpt_verdict.specs.declared.faults.Why.TheVariants as whys
 use Rattle.cpt_verdict.specs.Reading.{Outcome}
@@ -13,7 +13,9 @@ use Rattle.cpt_verdict.specs.Descent.{ReadsAll}
 use Rattle.cpt_verdict.proofs.OneOutcome.{one_outcome}
 use Rattle.cpt_sections.specs.declared.section.Stage.{Stage}
 use Rattle.cpt_sections.specs.declared.section.Stage.TheVariants as stages
-use Rattle.cpt_sections.specs.Stages.{LeftOf, IsStage, version_in, version_at, version_behind, Advances, Fails, Ends}
+use Rattle.cpt_verdict.specs.Texts.{brings_in}
+use Rattle.cpt_verdict.proofs.BringBytes.{brings_in_append}
+use Rattle.cpt_sections.specs.Stages.{LeftOf, IsStage, HasFewAt, version_in, version_at, version_behind, Advances, Fails, Ends}
 use Rattle.cpt_check.specs.declared.past.Past.{Past}
 use Rattle.cpt_check.specs.Judging.{StandsIn}
 use Rattle.cpt_check.specs.Progress.{IsFaultless, IsPast, IsFoundIn}
@@ -85,6 +87,7 @@ nothing_past t = record {
   count = refl;
   stage = tt;
   version = refl;
+  few = tt;
   reads = λ ls x h. h;
   faultless = λ front more e line why s. go front more e line why s;
 }
@@ -109,6 +112,7 @@ past_more t read p line new o h a ends =
     record {
       count = omega (arith, size, count);
       stage = subst (λ z. IsStage t z new) n a.stage;
+      few = subst (λ k. HasFewAt k new) (let e = brings_in_append read (line ∷ []) in omega (arith, e)) (a.few (brings_in read) h.few);
       version = a.version ∙ sym (version_more t p.stage read line [] h.version h.faultless);
       reads = λ ls x k. reads ls x (subst (λ z. LeftOf t new z ls x) (sym n) k);
       faultless = faultless_more t read line h.faultless (ends_read t new (p.count + 1 + 1) (read ++ line ∷ []) o ends n (λ x k. subst (λ z. ReadsAll t z x) (append-nil (read ++ line ∷ [])) (reads [] x k)));

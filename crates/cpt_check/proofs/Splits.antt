@@ -1,82 +1,14 @@
 -- whole lines at the front of a text
-use Rattle.std.proofs.Common.{◌≡◌, ◌≢◌, ℕ, ◌+◌, ◌≤◌, ◌⊎◌, inl, inr, List, [], ◌∷◌, ◌++◌, length, All, unwrap_or, refl, sym, ap, ◌∙◌, subst, arith, append_assoc, length-append}
+use Rattle.std.proofs.Common.{◌≡◌, ℕ, ◌+◌, ◌≤◌, List, [], ◌∷◌, ◌++◌, length, All, refl, sym, ap, ◌∙◌, subst, arith, append_assoc}
 use Rattle.std.specs.List.{AllZip}
-use Rattle.std.proofs.lemmas.Bool.{cases_lt, cases_eq}
-use Rattle.std.proofs.lemmas.List.Elements.{All-nil, All-cons, All-head, All-tail, All-append}
-use Rattle.cpt_cert.specs.declared.forms.CertLine.{CertLine}
-use Rattle.cpt_cert.specs.declared.forms.CertLine.TheVariants as lines
-use Rattle.cpt_cert.specs.Forms.{IsReadAs}
-use Rattle.cpt_cert.specs.Lines.{HasNoEnd}
-use Rattle.cpt_cert.specs.Reading.{words_in, line_in}
-use Rattle.cpt_cert.proofs.Meaning.{short_meaning, long_meaning, one_meaning}
-use Rattle.cpt_verdict.specs.Texts.{ended, IsSplit, unended, AreLinesOf}
-use Rattle.cpt_verdict.proofs.TextLines.{split_once}
+use Rattle.std.proofs.lemmas.List.Elements.{All-append}
+use Rattle.cpt_cert_form.specs.declared.forms.CertLine.{CertLine}
+use Rattle.cpt_cert_form.specs.Forms.{IsReadAs}
+use Rattle.cpt_cert_read.specs.Lines.{HasNoEnd}
+use Rattle.cpt_cert_read.specs.Texts.{ended, IsSplit, unended, AreLinesOf}
+use Rattle.cpt_cert_read.proofs.Meaning.{one_meaning}
+use Rattle.cpt_cert_read.proofs.Splits.{split_once, split_of, readings, zip_append, ended_append}
 use Rattle.cpt_check.specs.Judging.{IsFront}
-
--- the lines of bytes
-record Split (text : List ℕ) : Type 0 where
-  bodies : List (List ℕ)
-  tail : List ℕ
-  split : IsSplit text bodies tail
-
-split_at_end : (b : ℕ) (bs : List ℕ) → b ≡ 10 → Split bs → Split (b ∷ bs)
-split_at_end b bs e h = record {
-  bodies = [] ∷ h.bodies;
-  tail = h.tail;
-  split = record {
-    whole = let k : bs ≡ ended h.bodies ++ h.tail = h.split.whole in let j : b ∷ bs ≡ 10 ∷ (ended h.bodies ++ h.tail) = cc in j;
-    lines = All-cons HasNoEnd [] h.bodies (All-nil (λ z. z ≢ 10)) h.split.lines;
-    last = h.split.last;
-  };
-}
-
-split_inside : (b : ℕ) (bs : List ℕ) (bodies : List (List ℕ)) (tail : List ℕ) → b ≢ 10 → IsSplit bs bodies tail → Split (b ∷ bs)
-split_inside b bs [] tail e h = record {
-  bodies = [];
-  tail = b ∷ tail;
-  split = record { whole = ap (λ z. b ∷ z) h.whole; lines = h.lines; last = All-cons (λ z. z ≢ 10) b tail e h.last };
-}
-split_inside b bs (c ∷ cs) tail e h = record {
-  bodies = (b ∷ c) ∷ cs;
-  tail = tail;
-  split = record {
-    whole = ap (λ z. b ∷ z) h.whole;
-    lines = All-cons HasNoEnd (b ∷ c) cs (All-cons (λ z. z ≢ 10) b c e (All-head HasNoEnd c cs h.lines)) (All-tail HasNoEnd c cs h.lines);
-    last = h.last;
-  };
-}
-
-split_of : (text : List ℕ) → Split text
-split_of [] = record { bodies = []; tail = []; split = record { whole = refl; lines = All-nil HasNoEnd; last = All-nil (λ z. z ≢ 10) } }
-split_of (b ∷ bs) = go (split_of bs) (cases_eq b 10)
-  where
-    go : Split bs → (b ≡ 10) ⊎ (b ≡ 10 → ⊥) → Split (b ∷ bs)
-    go h (inl e) = split_at_end b bs e h
-    go h (inr e) = split_inside b bs h.bodies h.tail e h.split
-
--- what a line is read as
-reading : (bytes : List ℕ) → (line : CertLine) × IsReadAs bytes line
-reading bytes =
-    elim (cases_lt 65536 (length bytes)) [
-      | inl long ↦ (lines.Strange, long_meaning bytes long)
-      | inr short ↦ (unwrap_or (line_in (words_in bytes)) lines.Strange, short_meaning bytes short)
-    ]
-
-readings : (bodies : List (List ℕ)) → (read : List CertLine) × AllZip IsReadAs bodies read
-readings [] = ([], tt)
-readings (b ∷ bodies) = let r = reading b in let rs = readings bodies in (r.0 ∷ rs.0, (r.1, rs.1))
-
-pub zip_append : (bodies more : List (List ℕ)) (read also : List CertLine) → AllZip IsReadAs bodies read → AllZip IsReadAs more also → AllZip IsReadAs (bodies ++ more) (read ++ also)
-zip_append [] more [] also h k = k
-zip_append [] more (r ∷ read) also h k = absurd h
-zip_append (b ∷ bodies) more [] also h k = absurd h
-zip_append (b ∷ bodies) more (r ∷ read) also h k = (h.0, zip_append bodies more read also h.1 k)
-
-pub zip_length : (bodies : List (List ℕ)) (read : List CertLine) → AllZip IsReadAs bodies read → length bodies ≡ length read
-zip_length [] [] h = refl
-zip_length [] (r ∷ read) h = absurd h
-zip_length (b ∷ bodies) [] h = absurd h
-zip_length (b ∷ bodies) (r ∷ read) h = let k = zip_length bodies read h.1 in omega (arith, k)
 
 zip_front : (bodies more : List (List ℕ)) (ls read : List CertLine) → AllZip IsReadAs bodies ls → AllZip IsReadAs (bodies ++ more) read → (w : List CertLine) × (read ≡ ls ++ w) × AllZip IsReadAs more w
 zip_front [] more [] read h k = (read, refl, k)
@@ -88,19 +20,6 @@ zip_front (b ∷ bodies) more (l ∷ ls) (r ∷ read) h k =
     let same : r ≡ l = one_meaning b r l k.0 h.0 in
     let rest = w.1 in
     (w.0, cc, w.2)
-
-pub ended_append : (bodies more : List (List ℕ)) → ended (bodies ++ more) ≡ ended bodies ++ ended more
-ended_append [] more = refl
-ended_append (b ∷ bodies) more = ap (λ z. (b ++ 10 ∷ []) ++ z) (ended_append bodies more) ∙ sym (append_assoc (b ++ 10 ∷ []) (ended bodies) (ended more))
-
--- each line has its line feed
-pub few_lines : (bodies : List (List ℕ)) → length bodies ≤ length (ended bodies)
-few_lines [] = omega arith
-few_lines (b ∷ bodies) =
-    let k = few_lines bodies in
-    let size : length (ended (b ∷ bodies)) ≡ length (b ++ 10 ∷ []) + length (ended bodies) = length-append (b ++ 10 ∷ []) (ended bodies) in
-    let one : length (b ++ 10 ∷ []) ≡ length b + 1 = length-append b (10 ∷ []) in
-    omega (arith, k, size, one)
 
 -- lines behind the lines of a front
 split_behind : (text : List ℕ) (bodies : List (List ℕ)) (rest : List ℕ) (more : List (List ℕ)) (tail : List ℕ) → text ≡ ended bodies ++ rest → All HasNoEnd bodies → IsSplit rest more tail → IsSplit text (bodies ++ more) tail

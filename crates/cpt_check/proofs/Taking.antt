@@ -1,116 +1,65 @@
 -- pieces of a text, one behind another
-use Rattle.std.proofs.Common.{◌≡◌, ◌≢◌, ℕ, ◌+◌, ◌-◌, ◌<◌, ◌≤◌, List, [], ◌∷◌, ◌++◌, length, take, drop, Option, None, Some, Result, Ok, Err, refl, sym, ap, ◌∙◌, subst, arith, append_assoc, append-nil, length-append, length-drop}
-use Rattle.std.proofs.Math.Seq.{take-add, take-append-add}
+use Rattle.std.proofs.Common.{◌≡◌, ℕ, ◌+◌, ◌*◌, ◌<◌, ◌≤◌, ◌^◌, List, [], ◌∷◌, ◌++◌, length, take, drop, Option, None, Some, Result, Ok, Err, refl, sym, ap, ◌∙◌, subst, arith, append_assoc, length-append}
 use Rattle.std.proofs.lemmas.List.{take-append-drop, take_all, length-take, length-take-le}
-use Rattle.std.proofs.lemmas.List.Elements.{All-nil, All-cons, All-append}
 use Rattle.cpt_task.specs.Shape.{TaskShape}
-use Rattle.cpt_task.specs.declared.memory.Memory.{Memory}
-use Rattle.cpt_cert.specs.declared.forms.CertLine.{CertLine}
-use Rattle.cpt_cert.specs.Forms.{IsReadAs}
-use Rattle.cpt_cert.specs.Lines.{kept, HasNoEnd, Finishes, Feeds}
-use Rattle.cpt_cert.proofs.Enough.{kept_reading, kept_twice, kept_nothing}
-use Rattle.cpt_verdict.specs.Texts.{ended, IsSplit}
+use Rattle.cpt_cert_form.specs.declared.forms.CertLine.{CertLine}
+use Rattle.cpt_cert_read.specs.Lines.{Finishes, Feeds}
+use Rattle.cpt_cert_read.specs.Texts.{ended}
+use Rattle.cpt_cert_read.proofs.Splits.{zip_length, few_lines}
+use Rattle.cpt_cert_read.proofs.Feeding as feeding
+use Rattle.cpt_verdict.specs.Texts.{brings_in}
+use Rattle.cpt_verdict.proofs.BringBytes.{lines_bytes}
 use Rattle.cpt_sections.specs.Sections.{IsLine}
-use Rattle.cpt_sections.specs.Stages.{IsStage}
+use Rattle.cpt_sections.specs.Stages.{IsStage, HasFewAt}
+use Rattle.cpt_sections.proofs.StageLines.{more_few_at}
 use Rattle.cpt_check.specs.declared.past.Past.{Past}
 use Rattle.cpt_check.specs.declared.past.Fault.{Fault}
 use Rattle.cpt_check.specs.declared.past.Found.TheVariants as founds
 use Rattle.cpt_check.specs.declared.judged.CheckError.TheVariants as errors
 use Rattle.cpt_check.specs.Progress.{IsPast, IsFoundIn, IsRead, IsFoundAt, Takes, TakesFront}
-use Rattle.cpt_check.proofs.Splits.{zip_append, zip_length, ended_append, few_lines}
+
+-- the whole lines of bytes that are read, and what stands behind them
+size_of : (t : TaskShape) (bytes : List ℕ) (p : Past) (pending : List ℕ) → (h : IsRead t bytes p pending) → length bytes ≡ length (ended h.finished.bodies) + length h.finished.tail
+size_of t bytes p pending h = ap length h.finished.split.whole ∙ length-append (ended h.finished.bodies) h.finished.tail
 
 -- no more lines are past than bytes
 pub past_few : (t : TaskShape) (bytes : List ℕ) (p : Past) (pending : List ℕ) → IsRead t bytes p pending → p.count ≤ length bytes
 past_few t bytes p pending h =
-    let few = few_lines h.bodies in
-    let same = zip_length h.bodies h.read h.each in
+    let few = few_lines h.finished.bodies in
+    let same = zip_length h.finished.bodies h.read h.finished.each in
     let count : p.count ≡ length h.read = h.past.count in
-    let size : length bytes ≡ length (ended h.bodies) + length h.tail = ap length h.split.whole ∙ length-append (ended h.bodies) h.tail in
+    let size = size_of t bytes p pending h in
     omega (arith, few, same, count, size)
 
+-- no sheet has too many tokens where so few bytes are read
+pub past_tokens : (t : TaskShape) (bytes : List ℕ) (p : Past) (pending : List ℕ) → IsRead t bytes p pending → length bytes ≤ 2 ^ 36 → HasFewAt 4294967292 p.stage
+past_tokens t bytes p pending h short =
+    let some = lines_bytes h.finished.bodies h.read h.finished.each in
+    let size = size_of t bytes p pending h in
+    more_few_at (brings_in h.read) 4294967292 p.stage (omega (arith, some, size, short)) h.past.few
+
 pub read_start : (t : TaskShape) (p : Past) (pending : List ℕ) → IsPast t [] p → pending ≡ [] → IsRead t [] p pending
-read_start t p pending h e = record {
-  bodies = [];
-  tail = [];
-  read = [];
-  split = record { whole = refl; lines = All-nil HasNoEnd; last = All-nil (λ z. z ≢ 10) };
-  each = tt;
-  enough = e ∙ sym ((kept_nothing []).1 refl);
-  past = h;
-}
-
-kept_more : (before tail more : List ℕ) → before ≡ kept tail → kept (before ++ more) ≡ kept (tail ++ more)
-kept_more before tail more e = ap (λ z. kept (z ++ more)) e ∙ kept_twice tail more
-
--- a piece in which no line ends
-pub read_more : (t : TaskShape) (bytes : List ℕ) (p : Past) (before after piece : List ℕ) → IsRead t bytes p before → HasNoEnd piece → after ≡ kept (before ++ piece) → IsRead t (bytes ++ piece) p after
-read_more t bytes p before after piece h none e = record {
-  bodies = h.bodies;
-  tail = h.tail ++ piece;
-  read = h.read;
-  split = record {
-    whole = ap (λ z. z ++ piece) h.split.whole ∙ append_assoc (ended h.bodies) h.tail piece;
-    lines = h.split.lines;
-    last = All-append (λ z. z ≢ 10) h.tail piece h.split.last none;
-  };
-  each = h.each;
-  enough = e ∙ kept_more before h.tail piece h.enough;
-  past = h.past;
-}
-
--- what the line that ends is read as
-pub line_read : (t : TaskShape) (bytes : List ℕ) (p : Past) (before piece body : List ℕ) (line : CertLine) → (h : IsRead t bytes p before) → Finishes before piece body line → IsReadAs (h.tail ++ body) line
-line_read t bytes p before piece body line h f = (kept_reading (h.tail ++ body) line).0 (subst (λ z. IsReadAs z line) (kept_more before h.tail body h.enough) f.read)
-
-line_split : (bytes body tail : List ℕ) (bodies : List (List ℕ)) → IsSplit bytes bodies tail → HasNoEnd body → IsSplit (bytes ++ (body ++ 10 ∷ [])) (bodies ++ (tail ++ body) ∷ []) []
-line_split bytes body tail bodies h none = record {
-  whole =
-      ap (λ z. z ++ (body ++ 10 ∷ [])) h.whole ∙ append_assoc (ended bodies) tail (body ++ 10 ∷ []) ∙ ap (λ z. ended bodies ++ z) (sym (append_assoc tail body (10 ∷ []))) ∙
-      ap (λ z. ended bodies ++ z) (sym (append-nil ((tail ++ body) ++ 10 ∷ []))) ∙ sym (ended_append bodies ((tail ++ body) ∷ [])) ∙ sym (append-nil (ended (bodies ++ (tail ++ body) ∷ [])));
-  lines = All-append HasNoEnd bodies ((tail ++ body) ∷ []) h.lines (All-cons HasNoEnd (tail ++ body) [] (All-append (λ z. z ≢ 10) tail body h.last none) (All-nil HasNoEnd));
-  last = All-nil (λ z. z ≢ 10);
-}
-
--- a line that leads on
-pub read_line : (t : TaskShape) (bytes : List ℕ) (p : Past) (before piece body : List ℕ) (line : CertLine) (new : Past) (after : List ℕ) → (h : IsRead t bytes p before) → Finishes before piece body line →
-    after ≡ [] → IsPast t (h.read ++ line ∷ []) new → IsRead t (bytes ++ (body ++ 10 ∷ [])) new after
-read_line t bytes p before piece body line new after h f e k = record {
-  bodies = h.bodies ++ (h.tail ++ body) ∷ [];
-  tail = [];
-  read = h.read ++ line ∷ [];
-  split = line_split bytes body h.tail h.bodies h.split f.unended;
-  each = zip_append h.bodies ((h.tail ++ body) ∷ []) h.read (line ∷ []) h.each (line_read t bytes p before piece body line h f, tt);
-  enough = e ∙ sym ((kept_nothing []).1 refl);
-  past = k;
-}
+read_start t p pending h e = record { read = []; finished = feeding.none_finished pending e; past = h }
 
 -- a line at which a fault is known
-pub found_line : (t : TaskShape) (bytes : List ℕ) (p : Past) (before piece body : List ℕ) (line : CertLine) (fault : Fault) → (h : IsRead t bytes p before) → Finishes before piece body line →
+found_line : (t : TaskShape) (bytes : List ℕ) (p : Past) (before piece body : List ℕ) (line : CertLine) (fault : Fault) → (h : IsRead t bytes p before) → Finishes before piece body line →
     IsFoundIn t h.read line fault → IsFoundAt t (bytes ++ (body ++ 10 ∷ [])) fault
-found_line t bytes p before piece body line fault h f k = record {
-  bodies = h.bodies ++ (h.tail ++ body) ∷ [];
-  read = h.read;
-  last = line;
-  split = line_split bytes body h.tail h.bodies h.split f.unended;
-  each = zip_append h.bodies ((h.tail ++ body) ∷ []) h.read (line ∷ []) h.each (line_read t bytes p before piece body line h f, tt);
-  found = k;
-}
-
--- a line more of a piece
-pub take_more : (piece : List ℕ) (at taken : ℕ) (body rest : List ℕ) → drop at piece ≡ body ++ 10 ∷ rest → taken ≡ length body + 1 → take (at + taken) piece ≡ take at piece ++ (body ++ 10 ∷ [])
-take_more piece at taken body rest e size =
-    ap (λ z. take (at + z) piece) size ∙ take-add at (length body + 1) piece ∙ ap (λ z. take at piece ++ take (length body + 1) z) e ∙ ap (λ z. take at piece ++ z) (take-append-add body (10 ∷ rest) 1)
-
-pub line_behind : (piece : List ℕ) (at : ℕ) (body rest : List ℕ) → drop at piece ≡ body ++ 10 ∷ rest → piece ≡ (take at piece ++ (body ++ 10 ∷ [])) ++ rest
-line_behind piece at body rest e =
-    sym (take-append-drop at piece) ∙ ap (λ z. take at piece ++ z) (e ∙ sym (append_assoc body (10 ∷ []) rest)) ∙ sym (append_assoc (take at piece) (body ++ 10 ∷ []) rest)
+found_line t bytes p before piece body line fault h f k =
+    let all = feeding.line_more bytes h.read before piece body line [] h.finished f refl in
+    record {
+      bodies = all.bodies;
+      read = h.read;
+      last = line;
+      split = feeding.whole_split (bytes ++ (body ++ 10 ∷ [])) (h.read ++ line ∷ []) all;
+      each = all.each;
+      found = k;
+    }
 
 -- a line that ends in a piece leads on
 pub fed_line : (t : TaskShape) (bytes : List ℕ) (p : Past) (before after piece : List ℕ) (at taken : ℕ) (line : CertLine) (new : Past) →
     IsRead t (bytes ++ take at piece) p before → Feeds before after (drop at piece) (Ok (taken, Some line)) → ((read : List CertLine) → IsPast t read p → IsPast t (read ++ line ∷ []) new) → IsRead t (bytes ++ take (at + taken) piece) new after
-fed_line t bytes p before after piece at taken line new h (body, f, size, e) leads =
-    subst (λ z. IsRead t z new after) (append_assoc bytes (take at piece) (body ++ 10 ∷ []) ∙ ap (λ z. bytes ++ z) (sym (take_more piece at taken body f.rest f.piece_is size)))
-    (read_line t (bytes ++ take at piece) p before (drop at piece) body line new after h f e (leads h.read h.past))
+fed_line t bytes p before after piece at taken line new h feeds leads =
+    record { read = h.read ++ line ∷ []; finished = feeding.fed_line bytes h.read before after piece at taken line h.finished feeds; past = leads h.read h.past }
 
 -- a line that ends in a piece is at fault
 pub fed_fault : (t : TaskShape) (bytes : List ℕ) (p : Past) (before after piece : List ℕ) (at taken : ℕ) (line : CertLine) (fault : Fault) →
@@ -119,26 +68,21 @@ pub fed_fault : (t : TaskShape) (bytes : List ℕ) (p : Past) (before after piec
 fed_fault t bytes p before after piece at taken line fault h (body, f, size, e) leads = (
   take at piece ++ (body ++ 10 ∷ []),
   f.rest,
-  line_behind piece at body f.rest f.piece_is,
+  feeding.line_behind piece at body f.rest f.piece_is,
   subst (λ z. IsFoundAt t z fault) (append_assoc bytes (take at piece) (body ++ 10 ∷ [])) (found_line t (bytes ++ take at piece) p before (drop at piece) body line fault h f (leads h.read h.past)),
 )
 
 -- no line ends in what is left of a piece
 pub fed_none : (t : TaskShape) (bytes : List ℕ) (p : Past) (before after piece : List ℕ) (at taken : ℕ) → IsRead t (bytes ++ take at piece) p before → Feeds before after (drop at piece) (Ok (taken, None)) → IsRead t (bytes ++ piece) p after
-fed_none t bytes p before after piece at taken h (none, size, e) =
-    subst (λ z. IsRead t z p after) (append_assoc bytes (take at piece) (drop at piece) ∙ ap (λ z. bytes ++ z) (take-append-drop at piece)) (read_more t (bytes ++ take at piece) p before after (drop at piece) h none e)
+fed_none t bytes p before after piece at taken h feeds = record { read = h.read; finished = feeding.fed_none bytes h.read before after piece at taken h.finished feeds; past = h.past }
 
 -- the line that ends is a line
 pub fed_is_line : (t : TaskShape) (bytes : List ℕ) (p : Past) (before after piece : List ℕ) (taken : ℕ) (line : CertLine) → IsRead t bytes p before → Feeds before after piece (Ok (taken, Some line)) → IsLine line
-fed_is_line t bytes p before after piece taken line h (body, f, size, e) = (h.tail ++ body, line_read t bytes p before piece body line h f)
+fed_is_line t bytes p before after piece taken line h (body, f, size, e) = (h.finished.tail ++ body, feeding.line_read bytes h.read before piece body line h.finished f)
 
 -- what can be read next
 pub stage_next : (t : TaskShape) (bytes : List ℕ) (p : Past) (pending : List ℕ) → IsRead t bytes p pending → IsStage t (p.count + 1) p.stage
 stage_next t bytes p pending h = subst (λ z. IsStage t (z + 1) p.stage) (sym h.past.count) h.past.stage
-
--- the rest of a piece, as a slice
-pub fed_rest : (before after piece : List ℕ) (at : ℕ) (r : Result (ℕ × Option CertLine) Memory) → Feeds before after (take (length piece - at) (drop at piece)) r → Feeds before after (drop at piece) r
-fed_rest before after piece at r h = subst (λ z. Feeds before after z r) (take_all (length piece - at) (drop at piece) (let size = length-drop at piece in omega (arith, size))) h
 
 -- there is room for the piece
 pub front_on : (t : TaskShape) (bytes piece : List ℕ) (room : ℕ) (new : Past) (pending : List ℕ) → Takes t bytes (take room piece) pending (founds.On new) → length piece ≤ room → TakesFront t bytes piece room pending (Ok (founds.On new))

@@ -1,17 +1,18 @@
 use Rattle.std.specs.Prelude.{◌≡◌, ℕ, ◌+◌, ◌<◌, ◌≤◌, ◌⊎◌, List, [], ◌++◌, length, All, Option, Some, Result, Ok, Err, ⊤}
 use Rattle.std.specs.List.{AllZip}
 use Rattle.cpt_task.specs.Shape.{TaskShape}
-use Rattle.cpt_cert.specs.declared.forms.Version.{Version}
-use Rattle.cpt_cert.specs.declared.forms.Claim.{Claim}
-use Rattle.cpt_cert.specs.declared.forms.CertLine.{CertLine}
-use Rattle.cpt_cert.specs.Forms.{IsReadAs}
-use Rattle.cpt_cert.specs.Lines.{HasNoEnd}
-use Rattle.cpt_cert.specs.Text.{Parts}
+use Rattle.cpt_cert_form.specs.declared.forms.Version.{Version}
+use Rattle.cpt_cert_form.specs.declared.forms.Claim.{Claim}
+use Rattle.cpt_cert_form.specs.declared.forms.CertLine.{CertLine}
+use Rattle.cpt_cert_form.specs.Forms.{IsReadAs}
+use Rattle.cpt_cert_read.specs.Lines.{HasNoEnd}
+use Rattle.cpt_cert_form.specs.Text.{Parts}
 use Rattle.cpt_verdict.specs.declared.faults.Why.{Why}
 use Rattle.cpt_verdict.specs.Accepting.{IsCertificate, Accepts}
 use Rattle.cpt_verdict.specs.Reading.Outcome.{faulted}
 use Rattle.cpt_verdict.specs.Descent.{ReadsAll}
-use Rattle.cpt_verdict.specs.Texts.{ended, AreLinesOf, FirstFault}
+use Rattle.cpt_cert_read.specs.Texts.{ended, AreLinesOf}
+use Rattle.cpt_verdict.specs.Texts.{FirstFault}
 use Rattle.cpt_verdict.specs.Laws.{HoldsOf}
 use Rattle.cpt_sections.specs.Stages.{version_in}
 use Rattle.cpt_check.specs.declared.judged.Judged.{Judged}

@@ -1,18 +1,18 @@
 use Rattle.std.specs.Prelude.{◌≡◌, ℕ, ◌+◌, ◌<◌, ◌≤◌, List, [], ◌∷◌, ◌++◌, length, Option, Some, None, Result, Ok, Err, ⊤}
 use Rattle.std.specs.List.{AllZip}
 use Rattle.cpt_task.specs.Shape.{TaskShape}
-use Rattle.cpt_cert.specs.declared.forms.Version.{Version}
-use Rattle.cpt_cert.specs.declared.forms.Claim.{Claim}
-use Rattle.cpt_cert.specs.declared.forms.CertLine.{CertLine}
-use Rattle.cpt_cert.specs.Forms.{IsReadAs}
-use Rattle.cpt_cert.specs.Lines.{kept}
+use Rattle.cpt_cert_form.specs.declared.forms.Version.{Version}
+use Rattle.cpt_cert_form.specs.declared.forms.Claim.{Claim}
+use Rattle.cpt_cert_form.specs.declared.forms.CertLine.{CertLine}
+use Rattle.cpt_cert_form.specs.Forms.{IsReadAs}
 use Rattle.cpt_verdict.specs.declared.faults.Why.{Why}
 use Rattle.cpt_verdict.specs.declared.faults.Why.TheVariants as whys
 use Rattle.cpt_verdict.specs.Reading.{Outcome}
 use Rattle.cpt_verdict.specs.Reading.Outcome.{went, faulted}
 use Rattle.cpt_verdict.specs.Descent.{ReadsAll}
-use Rattle.cpt_verdict.specs.Texts.{IsSplit, AreLinesOf, FirstFault}
-use Rattle.cpt_sections.specs.Stages.{LeftOf, IsStage, version_in, version_at}
+use Rattle.cpt_cert_read.specs.Texts.{IsSplit, AreLinesOf, AreFinished}
+use Rattle.cpt_verdict.specs.Texts.{FirstFault, brings_in}
+use Rattle.cpt_sections.specs.Stages.{LeftOf, IsStage, HasFewAt, version_in, version_at}
 use Rattle.cpt_check.specs.declared.past.Past.{Past}
 use Rattle.cpt_check.specs.declared.past.Fault.{Fault}
 use Rattle.cpt_check.specs.declared.past.Found.{Found}
@@ -25,11 +25,12 @@ use Rattle.cpt_check.specs.Judging.{StandsIn}
 abbrev pub IsFaultless : TaskShape → List CertLine → Type 0
 IsFaultless t read = (front more : List CertLine) → read ≡ front ++ more → (line : ℕ) (why : Why) → StandsIn t front line why → ⊥
 
--- these lines are read, and no fault stands in them
+-- These lines are read, and no fault stands in them. No sheet has more tokens than they bring, and the two of each root.
 pub record IsPast (t : TaskShape) (read : List CertLine) (p : Past) : Type 0 where
   pub count : p.count ≡ length read
   pub stage : IsStage t (length read + 1) p.stage
   pub version : version_at p.stage ≡ version_in read
+  pub few : HasFewAt (brings_in read) p.stage
   pub reads : (ls : List CertLine) (x : Outcome (Version × Claim)) → LeftOf t p.stage (length read + 1) ls x → ReadsAll t (read ++ ls) x
   pub faultless : IsFaultless t read
 
@@ -47,12 +48,8 @@ Leads t read line (founds.Fault f) = IsFoundIn t read line f
 
 -- these bytes are read: their whole lines are past, and what stands behind the last line feed is kept
 pub record IsRead (t : TaskShape) (bytes : List ℕ) (p : Past) (pending : List ℕ) : Type 0 where
-  pub bodies : List (List ℕ)
-  pub tail : List ℕ
   pub read : List CertLine
-  pub split : IsSplit bytes bodies tail
-  pub each : AllZip IsReadAs bodies read
-  pub enough : pending ≡ kept tail
+  pub finished : AreFinished bytes read pending
   pub past : IsPast t read p
 
 -- these bytes are whole lines, and the fault is known from the last of them on

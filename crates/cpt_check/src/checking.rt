@@ -7,7 +7,7 @@ use crate::ending::{conclude, rejected};
 use crate::judged::{CheckError, Judged};
 use crate::past::{Found, start};
 use crate::pieces::take_front;
-use cpt_cert::Lines;
+use cpt_cert_read::Lines;
 use cpt_io::Library;
 use cpt_task::Task;
 use std::alloc::Global;

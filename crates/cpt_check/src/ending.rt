@@ -7,7 +7,7 @@ ghost use Rattle.cpt_check.specs.Progress.{IsRead, Concludes};
 
 use crate::judged::{Judged, Ruling};
 use crate::past::{Fault, Past};
-use cpt_cert::{Claim, Lines, Version};
+use cpt_cert_read::{Claim, Lines, Version};
 use cpt_sections::{claimed, version_of};
 use cpt_soundness::tell_sets;
 use cpt_task::Task;
@@ -31,9 +31,9 @@ fn end_of(past: &Past, lines: &Lines) -> Option<(Version, Claim)>
 /// What is said of a text that is read to its end.
 pub fn conclude(task: &Task, past: &Past, lines: &Lines) -> Judged
     requires { past.now.count ≤ 2 ^ 36 }
-    ensures rules { (most : ℕ) (text : List ℕ) → IsRead task.now text past.now lines.now → length text ≤ most → RulesOf task.now most text result.version result.ruling }
+    ensures rules { (most : ℕ) (text : List ℕ) → IsRead task.now text past.now lines.now → length text ≤ most → most ≤ 2 ^ 36 → RulesOf task.now most text result.version result.ruling }
     ensures leaves { (text : List ℕ) → IsRead task.now text past.now lines.now → LeavesOf task.now text (Some []) result.ruling }
-    ensures holds { (text : List ℕ) → IsRead task.now text past.now lines.now → RulingHolds task.now text result.version result.ruling }
+    ensures holds { (text : List ℕ) → IsRead task.now text past.now lines.now → length text ≤ 2 ^ 36 → RulingHolds task.now text result.version result.ruling }
 {
     tell_bounds(task);
     tell_sets(task);

@@ -1,6 +1,6 @@
 //! What the checker says of a text.
 
-use cpt_cert::{Claim, Version};
+use cpt_cert_read::{Claim, Version};
 use cpt_verdict::Why;
 
 /// Whether a text is a certificate of a task.

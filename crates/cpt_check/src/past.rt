@@ -2,14 +2,14 @@
 
 ghost use Rattle.std.specs.Prelude.{◌≡◌, ◌+◌, ◌<◌, ◌≤◌, ◌^◌, ℕ, List, [], length, Option, IfOk};
 ghost use Rattle.cpt_task.specs.Shape.{TaskShape};
-ghost use Rattle.cpt_cert.specs.declared.forms.Version.{Version};
-ghost use Rattle.cpt_cert.specs.declared.forms.Claim.{Claim};
-ghost use Rattle.cpt_cert.specs.declared.forms.CertLine.{CertLine};
+ghost use Rattle.cpt_cert_form.specs.declared.forms.Version.{Version};
+ghost use Rattle.cpt_cert_form.specs.declared.forms.Claim.{Claim};
+ghost use Rattle.cpt_cert_form.specs.declared.forms.CertLine.{CertLine};
 ghost use Rattle.cpt_sections.specs.Sections.{IsLine};
-ghost use Rattle.cpt_sections.specs.Stages.{IsStage, Ends};
+ghost use Rattle.cpt_sections.specs.Stages.{IsStage, HasFewAt, Ends};
 ghost use Rattle.cpt_check.specs.Progress.{IsPast, Leads};
 
-use cpt_cert::{CertLine, Version};
+use cpt_cert_read::{CertLine, Version};
 use cpt_sections::{Stage, Turned, begin, claimed, take_line, version_of};
 use cpt_task::{Memory, Task};
 use cpt_verdict::Why;
@@ -63,6 +63,7 @@ pub fn judge_line(alloc: Global, task: &Task, past: Past, line: &CertLine) -> Re
     requires stage { IsStage task.now (past.count + 1) past.stage }
     requires line { IsLine line.now }
     requires few { past.count ≤ 2 ^ 36 }
+    requires tokens { HasFewAt 4294967292 past.stage }
     requires atoms { length task.now.atoms ≤ 2048 }
     requires actions { length task.now.actions ≤ 4096 }
     ensures { IfOk result (λ f. (read : List CertLine) → IsPast task.now read past → Leads task.now read line.now f) }

@@ -5,7 +5,7 @@ ghost use Rattle.cpt_check.specs.Progress.{IsRead, Takes, TakesFront};
 
 use crate::judged::CheckError;
 use crate::past::{Found, Past, judge_line};
-use cpt_cert::Lines;
+use cpt_cert_read::Lines;
 use cpt_task::{Memory, Task};
 use std::alloc::Global;
 

@@ -4,11 +4,11 @@ use Rattle.cpt_task.specs.declared.plan.Occ.{Occ}
 use Rattle.cpt_sheet.specs.declared.data.NodeLine.{NodeLine}
 use Rattle.cpt_sheet.specs.declared.data.NodeLine.TheVariants.{Close}
 use Rattle.cpt_sheet.specs.Gaps.{FitsTask}
-use Rattle.cpt_cert.specs.declared.forms.Claim.TheVariants.{NoneUpTo}
-use Rattle.cpt_cert.specs.declared.forms.Cert.{Cert}
-use Rattle.cpt_cert.specs.Forms.{IsClaim, IsShortNode}
-use Rattle.cpt_cert.specs.Whole.{HasTables, HasTree, AreNodes, AsksPartial, IsTree, IsListedPlan, IsWhole}
-use Rattle.cpt_cert.specs.Whole.AreNodes.{closed}
+use Rattle.cpt_cert_form.specs.declared.forms.Claim.TheVariants.{NoneUpTo}
+use Rattle.cpt_cert_print.specs.declared.cert.Cert.{Cert}
+use Rattle.cpt_cert_form.specs.Forms.{IsClaim, IsShortNode}
+use Rattle.cpt_cert_print.specs.Whole.{HasTables, HasTree, AreNodes, AsksPartial, IsTree, IsListedPlan, IsWhole}
+use Rattle.cpt_cert_print.specs.Whole.AreNodes.{closed}
 use Rattle.cpt_task.specs.Shape.{TaskShape}
 use Rattle.cpt_tables.specs.declared.tables.Tables.{Tables}
 use Rattle.cpt_sheet.specs.declared.data.Tree.{Tree}

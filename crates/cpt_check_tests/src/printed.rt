@@ -4,7 +4,7 @@ ghost use Rattle.std.specs.Prelude.{◌≡◌, [], ◌∷◌, IfSome, IfOk};
 ghost use Rattle.cpt_tables.specs.Spans.{IsBelow};
 ghost use Rattle.cpt_tables.specs.Shapes.{FitsPairs, FitsDists};
 ghost use Rattle.cpt_sheet.specs.Gaps.{FitsTask};
-ghost use Rattle.cpt_cert.specs.Whole.{IsWhole};
+ghost use Rattle.cpt_cert_print.specs.Whole.{IsWhole};
 
 use crate::scene::{KEY_TASK, task_of};
 use cpt_cert::{Cert, Claim, Version, cert_len, print_cert};

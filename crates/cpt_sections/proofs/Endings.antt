@@ -2,10 +2,10 @@
 use Rattle.std.proofs.Common.{◌≡◌, ℕ, suc, ◌-◌, ◌<◌, ◌≤◌, Bool, List, [], ◌∷◌, length, Some, None, refl, sym, ap, ◌∙◌, subst, arith}
 use Rattle.cpt_task.specs.Shape.{TaskShape}
 use Rattle.cpt_tables.specs.Shapes.{PairShape}
-use Rattle.cpt_cert.specs.declared.forms.Version.{Version}
-use Rattle.cpt_cert.specs.declared.forms.Claim.{Claim}
-use Rattle.cpt_cert.specs.declared.forms.CertLine.{CertLine}
-use Rattle.cpt_cert.specs.declared.forms.CertLine.TheVariants as lines
+use Rattle.cpt_cert_form.specs.declared.forms.Version.{Version}
+use Rattle.cpt_cert_form.specs.declared.forms.Claim.{Claim}
+use Rattle.cpt_cert_form.specs.declared.forms.CertLine.{CertLine}
+use Rattle.cpt_cert_form.specs.declared.forms.CertLine.TheVariants as lines
 use Rattle.cpt_verdict.specs.declared.faults.Why.TheVariants as whys
 use Rattle.cpt_verdict.specs.Reading.{take_version, take_claim, take_sizes, take_plan, take_items, take_pairs, take_pair_rows, take_dists, take_dist_rows, take_end}
 use Rattle.cpt_verdict.specs.Reading.Outcome.{went, faulted}

@@ -8,10 +8,10 @@ use Rattle.cpt_task.specs.declared.memory.Memory.{Memory}
 use Rattle.cpt_task.specs.declared.plan.Occ.{Occ}
 use Rattle.cpt_task.specs.Shape.{TaskShape}
 use Rattle.cpt_task.specs.Timeline.{IsOccurrence, IsPlan, makespan}
-use Rattle.cpt_cert.specs.declared.forms.Version.{Version}
-use Rattle.cpt_cert.specs.declared.forms.CertLine.{CertLine}
-use Rattle.cpt_cert.specs.declared.forms.CertLine.TheVariants as lines
-use Rattle.cpt_cert.specs.Forms.{IsWritten, capped_line}
+use Rattle.cpt_cert_form.specs.declared.forms.Version.{Version}
+use Rattle.cpt_cert_form.specs.declared.forms.CertLine.{CertLine}
+use Rattle.cpt_cert_form.specs.declared.forms.CertLine.TheVariants as lines
+use Rattle.cpt_cert_form.specs.Forms.{IsWritten, capped_line}
 use Rattle.cpt_verdict.specs.declared.faults.Why.TheVariants as whys
 use Rattle.cpt_verdict.specs.Accepting.{IsPlanOf, is_no_sooner}
 use Rattle.cpt_verdict.specs.Reading.{Outcome, After, behind, take_plan, take_items, JudgesPlan}
@@ -23,7 +23,8 @@ use Rattle.cpt_sections.specs.declared.section.Section.{Section}
 use Rattle.cpt_sections.specs.declared.section.Section.TheVariants as sections
 use Rattle.cpt_sections.specs.declared.section.Next.{Next}
 use Rattle.cpt_sections.specs.declared.section.Next.TheVariants as nexts
-use Rattle.cpt_sections.specs.Sections.{Left, IsSection, AreItems, IsLine, Moves, JudgesItems, BehindPlan}
+use Rattle.cpt_verdict.specs.Texts.{bring_in}
+use Rattle.cpt_sections.specs.Sections.{Left, IsSection, HasFew, AreItems, IsLine, Moves, JudgesItems, BehindPlan}
 use Rattle.cpt_sections.specs.Plans.{CanStand, KeepsAlso, after_plan, IsPlanIn, EndsPlan, MayEnd, IsFirstItems, TakesItem}
 use Rattle.cpt_sections.specs.Proceeding.{Proceeds}
 
@@ -144,7 +145,7 @@ module _ (t : TaskShape) where
     -- what comes from where lines are left comes of the line before
     pub comes_moves : (s old : Section) (n : ℕ) (line : CertLine) (next : Next) →
         ((ls : List CertLine) (x : Outcome (Unit {0})) → Left t v s (n + 1) ls x → Left t v old n (line ∷ ls) x) → Proceeds t v (Left t v s) (n + 1) next → Moves t v old n line next
-    comes_moves s old n line (nexts.On new) f h = (h.0, λ ls x left. f ls x (h.1 ls x left))
+    comes_moves s old n line (nexts.On new) f h = (h.0, λ k few. h.1 (k + bring_in line), λ ls x left. f ls x (h.2 ls x left))
     comes_moves s old n line (nexts.Fault at why) f h = ((let below = h.0 in omega (arith, below)), λ ls. f ls (faulted at why) (h.1 ls))
 
     -- the head of a plan
@@ -183,6 +184,10 @@ module _ (t : TaskShape) where
     is_after zero n h = tt
     is_after (suc m) n h = subst (IsSection t n) (sym (after_suc m)) (omega (arith, h))
 
+    few_after : (m k : ℕ) → HasFew k (after_plan m)
+    few_after zero k = tt
+    few_after (suc m) k = subst (HasFew k) (sym (after_suc m)) tt
+
     judged_items : (i : Items) (n : ℕ) → i.left ≡ 0 → IsPlanIn t i.makespan i.plan → (ls : List CertLine) (x : Outcome (Unit {0})) → BehindPlan t v i.makespan n ls x → Left t v (sections.Items i) n ls x
     judged_items i n none good ls x h =
         let k = good_plan i.makespan i.head n ls i.plan good in
@@ -195,6 +200,7 @@ module _ (t : TaskShape) where
     pub plan_comes : (i : Items) (n : ℕ) (next : Next) → i.left ≡ 0 → MayEnd t i → EndsPlan t i.makespan i.head i.plan next → i.head < n → Proceeds t v (Left t v (sections.Items i)) n next
     plan_comes i n (nexts.On new) none h ends below = (
       subst (IsSection t n) (sym ends.1) (is_after i.makespan n h.makespan),
+      λ k. subst (HasFew k) (sym ends.1) (few_after i.makespan k),
       λ ls x left. judged_items i n none ends.0 ls x (left_after i.makespan n ls x (subst (λ z. Left t v z n ls x) ends.1 left)),
     )
     plan_comes i n (nexts.Fault at why) none h ends below = (

@@ -7,10 +7,10 @@ use Rattle.cpt_tables.specs.declared.faults.PairFault.{PairFault}
 use Rattle.cpt_tables.specs.declared.faults.DistFault.{DistFault}
 use Rattle.cpt_tables.specs.Shapes.{PairShape, set_span_of}
 use Rattle.cpt_tables.specs.Admissible.{IsAdmissiblePairs, IsAdmissibleDists, IsPairFault, IsDistFault}
-use Rattle.cpt_cert.specs.declared.forms.Version.{Version}
-use Rattle.cpt_cert.specs.declared.forms.Run.{Run}
-use Rattle.cpt_cert.specs.declared.forms.CertLine.{CertLine}
-use Rattle.cpt_cert.specs.declared.forms.CertLine.TheVariants as lines
+use Rattle.cpt_cert_form.specs.declared.forms.Version.{Version}
+use Rattle.cpt_cert_form.specs.declared.forms.Run.{Run}
+use Rattle.cpt_cert_form.specs.declared.forms.CertLine.{CertLine}
+use Rattle.cpt_cert_form.specs.declared.forms.CertLine.TheVariants as lines
 use Rattle.cpt_verdict.specs.declared.faults.Why.TheVariants as whys
 use Rattle.cpt_verdict.specs.Reading.{Outcome, After, behind, values_of, is_row, take_pair_rows, take_pairs, take_dist_rows, take_dists, take_end, pair_rows, dist_rows, JudgesPairs, JudgesDists}
 use Rattle.cpt_verdict.specs.Reading.Outcome.{went, faulted}
@@ -23,18 +23,19 @@ use Rattle.cpt_sections.specs.declared.section.Section.{Section}
 use Rattle.cpt_sections.specs.declared.section.Section.TheVariants as sections
 use Rattle.cpt_sections.specs.declared.section.Next.{Next}
 use Rattle.cpt_sections.specs.declared.section.Next.TheVariants as nexts
+use Rattle.cpt_verdict.specs.Texts.{bring_in}
 use Rattle.cpt_sections.specs.Sections.{Left, Moves, BehindPairs, ReadsPairRows, ReadsDistRows, ReadsTrees, first_pair_rows, first_dist_rows}
 use Rattle.cpt_sections.specs.Proceeding.{Proceeds, ArePairRowsSoFar, AreDistRowsSoFar}
 
 module _ (t : TaskShape) (v : Version) where
   -- what is read so is read otherwise too
   pub proceed_by : (R S : ℕ → List CertLine → Outcome (Unit {0}) → Type 0) (n : ℕ) (next : Next) → ((ls : List CertLine) (x : Outcome (Unit {0})) → R n ls x → S n ls x) → Proceeds t v R n next → Proceeds t v S n next
-  proceed_by R S n (nexts.On new) f h = (h.0, λ ls x g. f ls x (h.1 ls x g))
+  proceed_by R S n (nexts.On new) f h = (h.0, h.1, λ ls x g. f ls x (h.2 ls x g))
   proceed_by R S n (nexts.Fault at why) f h = (h.0, λ ls. f ls (faulted at why) (h.1 ls))
 
   -- a line leads to a section, and that to what comes next
   pub move_by : (old new : Section) (n : ℕ) (line : CertLine) (next : Next) → ((ls : List CertLine) (x : Outcome (Unit {0})) → Left t v new (n + 1) ls x → Left t v old n (line ∷ ls) x) → Proceeds t v (Left t v new) (n + 1) next → Moves t v old n line next
-  move_by old new n line (nexts.On on) f h = (h.0, λ ls x g. f ls x (h.1 ls x g))
+  move_by old new n line (nexts.On on) f h = (h.0, λ k few. h.1 (k + bring_in line), λ ls x g. f ls x (h.2 ls x g))
   move_by old new n line (nexts.Fault at why) f h = (let lt = h.0 in omega (arith, lt), λ ls. f ls (faulted at why) (h.1 ls))
 
   -- behind a pair table

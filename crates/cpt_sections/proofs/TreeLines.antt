@@ -11,13 +11,13 @@ use Rattle.cpt_sheet.specs.declared.data.Decision.{Decision}
 use Rattle.cpt_sheet.specs.declared.data.NodeLine.{NodeLine}
 use Rattle.cpt_sheet.specs.Gaps.{FitsTask}
 use Rattle.cpt_calculus.specs.Root.{root_of}
-use Rattle.cpt_cert.specs.declared.forms.Version.{Version}
-use Rattle.cpt_cert.specs.declared.forms.CertLine.{CertLine}
-use Rattle.cpt_cert.specs.declared.forms.CertLine.TheVariants as lines
+use Rattle.cpt_cert_form.specs.declared.forms.Version.{Version}
+use Rattle.cpt_cert_form.specs.declared.forms.CertLine.{CertLine}
+use Rattle.cpt_cert_form.specs.declared.forms.CertLine.TheVariants as lines
 use Rattle.cpt_verdict.specs.declared.faults.Why.{Why}
 use Rattle.cpt_verdict.specs.declared.faults.Why.TheVariants as whys
 use Rattle.cpt_verdict.specs.Accepting.{is_done, is_left}
-use Rattle.cpt_verdict.specs.Trees.{Part}
+use Rattle.cpt_verdict.specs.Trees.{Part, bring_of}
 use Rattle.cpt_verdict.specs.Trees.Part.{node, branches}
 use Rattle.cpt_verdict.specs.Reading.{Outcome, After, Then, behind, take_tree, take_open_tree, take_end}
 use Rattle.cpt_verdict.specs.Reading.Outcome.{went, faulted}
@@ -26,7 +26,7 @@ use Rattle.cpt_walk.specs.declared.walk.Frame.{Frame}
 use Rattle.cpt_walk.specs.declared.walk.Place.{Place}
 use Rattle.cpt_walk.specs.declared.walk.Place.TheVariants.{Node, Worked, Behind}
 use Rattle.cpt_walk.specs.declared.walk.Walk.{Walk}
-use Rattle.cpt_walk.specs.Walks.{ReadsParts, Leads, FailsAt, IsUnread, IsUnreadAt, parts_left, parts_at, stacked, still}
+use Rattle.cpt_walk.specs.Walks.{ReadsParts, Leads, FailsAt, AreFew, IsUnread, IsUnreadAt, parts_left, parts_at, stacked, still}
 use Rattle.cpt_walk.proofs.Moves.{node_works, strange_fails, childless_fails}
 use Rattle.cpt_walk.proofs.Turning.{stack_push, last_frame}
 use Rattle.cpt_sections.specs.declared.section.Trees.{Trees}
@@ -35,7 +35,7 @@ use Rattle.cpt_sections.specs.declared.section.Section.{Section}
 use Rattle.cpt_sections.specs.declared.section.Section.TheVariants as sections
 use Rattle.cpt_sections.specs.declared.section.Next.TheVariants as nexts
 use Rattle.cpt_sections.specs.Behind.{first_bound, behind_tree}
-use Rattle.cpt_sections.specs.Sections.{AreTrees, AreNodesLeft, BehindTree, EndsEarly, IsNothing, IsSection, Left, Moves, ReadsTrees, is_tallied, take_tallied_end}
+use Rattle.cpt_sections.specs.Sections.{AreTrees, AreNodesLeft, BehindTree, EndsEarly, IsNothing, IsSection, HasFew, Left, Moves, ReadsTrees, is_tallied, take_tallied_end}
 
 -- where nothing comes no line begins the text but a strange one
 no_line : (ls rest : List CertLine) (line : CertLine) → IsNothing ls → line ≢ lines.Strange → ls ≢ line ∷ rest
@@ -162,6 +162,10 @@ module _ (t : TaskShape) (b : Tables) where
   behind_formed (trees.Closed bound) n small fits = tt
   behind_formed (trees.Open refuted nodes) n small fits = (small, fits)
 
+  behind_few : (ts : Trees) (k : ℕ) → HasFew k (behind_tree ts b)
+  behind_few (trees.Closed bound) k = tt
+  behind_few (trees.Open refuted nodes) k = tt
+
   -- the head of a tree is at fault
   tree_fails : (ts : Trees) (n : ℕ) (ls : List CertLine) (why : Why) → take_tree (first_bound ts) n ls ≡ faulted n why → ReadsTrees t ts b n ls (faulted n why)
   tree_fails ts n ls why e = trees_at ts n ls (faulted n why) (faulted n why, (faulted n why, sym e, refl), refl)
@@ -176,9 +180,9 @@ module _ (t : TaskShape) (b : Tables) where
   pub other_at_tree : (v : Version) (ts : Trees) (n c : ℕ) → c ≢ first_bound ts → Moves t v (sections.Tree ts b) n (lines.Tree c) (nexts.Fault n whys.Bound)
   other_at_tree v ts n c ne = (omega arith, λ ls. tree_fails ts n (lines.Tree c ∷ ls) whys.Bound (other_tree (first_bound ts) c n ls ne))
 
-  pub tree_begins : (v : Version) (ts : Trees) (n c : ℕ) (w : Walk) → AreTrees ts → FitsTask t b → c ≡ first_bound ts → parts_left w ≡ node (root_of t b c) ∷ [] → AreNodesLeft t (n + 1) false w →
+  pub tree_begins : (v : Version) (ts : Trees) (n c : ℕ) (w : Walk) → AreTrees ts → FitsTask t b → c ≡ first_bound ts → parts_left w ≡ node (root_of t b c) ∷ [] → AreNodesLeft t (n + 1) false w → ((k : ℕ) → AreFew k w) →
       Moves t v (sections.Tree ts b) n (lines.Tree c) (nexts.On (sections.Nodes ts b w))
-  tree_begins v ts n c w small fits e root left = ((small, fits, left), λ ls o h. reads ls o h)
+  tree_begins v ts n c w small fits e root left few = ((small, fits, left), (λ k h. few (k + 0)), λ ls o h. reads ls o h)
     where
       reads : (ls : List CertLine) (o : Outcome (Unit {0})) → Then (ReadsParts t b false (parts_left w)) (λ _. BehindTree t ts b) (n + 1) ls o → ReadsTrees t ts b n (lines.Tree c ∷ ls) o
       reads ls o (x, parts, after) =
@@ -193,9 +197,9 @@ module _ (t : TaskShape) (b : Tables) where
   pub other_at_open_tree : (v : Version) (refuted nodes n c : ℕ) → c ≢ refuted + 1 → Moves t v (sections.OpenTree refuted nodes b) n (lines.OpenTree c) (nexts.Fault n whys.Bound)
   other_at_open_tree v refuted nodes n c ne = (omega arith, λ ls. open_tree_fails refuted nodes n (lines.OpenTree c ∷ ls) whys.Bound (other_open_tree (refuted + 1) c n ls ne))
 
-  pub open_tree_begins : (v : Version) (refuted nodes n c : ℕ) (w : Walk) → FitsTask t b → c ≡ refuted + 1 → parts_left w ≡ node (root_of t b c) ∷ [] → AreNodesLeft t (n + 1) true w → w.past.done ≡ 0 → w.past.left ≡ false →
+  pub open_tree_begins : (v : Version) (refuted nodes n c : ℕ) (w : Walk) → FitsTask t b → c ≡ refuted + 1 → parts_left w ≡ node (root_of t b c) ∷ [] → AreNodesLeft t (n + 1) true w → w.past.done ≡ 0 → w.past.left ≡ false → ((k : ℕ) → AreFew k w) →
       Moves t v (sections.OpenTree refuted nodes b) n (lines.OpenTree c) (nexts.On (sections.OpenNodes nodes b w))
-  open_tree_begins v refuted nodes n c w fits e root left none shut = ((fits, left), λ ls o h. reads ls o h)
+  open_tree_begins v refuted nodes n c w fits e root left none shut few = ((fits, left), (λ k h. few (k + 0)), λ ls o h. reads ls o h)
     where
       reads : (ls : List CertLine) (o : Outcome (Unit {0})) → Left t v (sections.OpenNodes nodes b w) (n + 1) ls o → BehindTree t (trees.Open refuted nodes) b n (lines.OpenTree c ∷ ls) o
       reads ls o (x, parts, after) =
@@ -239,10 +243,11 @@ module _ (t : TaskShape) (b : Tables) where
   node_moves v ts w u n l s (small, fits, left) h (inl (e, k)) =
       subst (λ z. Moves t v (sections.Nodes ts b w) n (lines.Node l) (nexts.On z)) (sym k) (
         behind_formed ts (n + 1) small fits,
+        λ m few. behind_few ts (m + bring_of l),
         λ ls o read. node_then ts w u l n ls o left.opens h (went [] ls (n + 1), all_read false u (n + 1) ls e, behind_at v ts (n + 1) ls o read),
       )
   node_moves v ts w u n l s (small, fits, left) h (inr (some, k)) =
-      subst (λ z. Moves t v (sections.Nodes ts b w) n (lines.Node l) (nexts.On z)) (sym k) ((small, fits, still_left n false w u l left h some), λ ls o read. node_then ts w u l n ls o left.opens h read)
+      subst (λ z. Moves t v (sections.Nodes ts b w) n (lines.Node l) (nexts.On z)) (sym k) ((small, fits, still_left n false w u l left h some), h.few, λ ls o read. node_then ts w u l n ls o left.opens h read)
 
   -- a line of a tree with open nodes
   pub strange_at_open_node : (v : Version) (nodes : ℕ) (w : Walk) (n : ℕ) (line : CertLine) → AreNodesLeft t n true w → ((l : NodeLine) → line ≢ lines.Node l) → Moves t v (sections.OpenNodes nodes b w) n line (nexts.Fault n whys.Grammar)
@@ -265,6 +270,7 @@ module _ (t : TaskShape) (b : Tables) where
   open_node_moves v nodes w u n l s (fits, left) h (inl (e, k)) =
       subst (λ z. Moves t v (sections.OpenNodes nodes b w) n (lines.Node l) (nexts.On z)) (sym k) (
         tt,
+        λ m few. tt,
         λ ls o read. open_node_then v nodes w u l n ls o left.opens h (
           went [] ls (n + 1),
           all_read true u (n + 1) ls e,
@@ -272,7 +278,7 @@ module _ (t : TaskShape) (b : Tables) where
         ),
       )
   open_node_moves v nodes w u n l s (fits, left) h (inr (some, k)) =
-      subst (λ z. Moves t v (sections.OpenNodes nodes b w) n (lines.Node l) (nexts.On z)) (sym k) ((fits, still_left n true w u l left h some), λ ls o read. open_node_then v nodes w u l n ls o left.opens h read)
+      subst (λ z. Moves t v (sections.OpenNodes nodes b w) n (lines.Node l) (nexts.On z)) (sym k) ((fits, still_left n true w u l left h some), h.few, λ ls o read. open_node_then v nodes w u l n ls o left.opens h read)
 
 -- a tree that is not read whole ends too early
 pub ends_tree : (t : TaskShape) (v : Version) (n : ℕ) (ts : Trees) (b : Tables) → IsSection t n (sections.Tree ts b) → EndsEarly t v (sections.Tree ts b) n

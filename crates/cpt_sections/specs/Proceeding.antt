@@ -1,21 +1,21 @@
 use Rattle.std.specs.Prelude.{ℕ, ◌+◌, ◌<◌, ◌≤◌, ◌^◌, List, length}
 use Rattle.cpt_task.specs.Shape.{TaskShape}
 use Rattle.cpt_tables.specs.Shapes.{FitsPairs, FitsDists, IsWholePairs, IsWholeDists}
-use Rattle.cpt_cert.specs.declared.forms.Version.{Version}
-use Rattle.cpt_cert.specs.declared.forms.CertLine.{CertLine}
+use Rattle.cpt_cert_form.specs.declared.forms.Version.{Version}
+use Rattle.cpt_cert_form.specs.declared.forms.CertLine.{CertLine}
 use Rattle.cpt_verdict.specs.Reading.{Outcome}
 use Rattle.cpt_verdict.specs.Reading.Outcome.{faulted}
 use Rattle.cpt_sections.specs.declared.section.PairRows.{PairRows}
 use Rattle.cpt_sections.specs.declared.section.DistRows.{DistRows}
 use Rattle.cpt_sections.specs.declared.section.Next.{Next}
 use Rattle.cpt_sections.specs.declared.section.Next.TheVariants as nexts
-use Rattle.cpt_sections.specs.Sections.{Left, IsSection, IsAim, AreTrees}
+use Rattle.cpt_sections.specs.Sections.{Left, IsSection, HasFew, IsAim, AreTrees}
 
 -- What is read so from line n on is read as this section, whatever lines come. Or it is known before line n is read that
--- this is the first fault.
+-- this is the first fault. No tree has begun there.
 abbrev pub Proceeds : TaskShape → Version → (ℕ → List CertLine → Outcome (Unit {0}) → Type 0) → ℕ → Next → Type 0
 Proceeds t v Reads n (nexts.On new) =
-    IsSection t n new × ((ls : List CertLine) (x : Outcome (Unit {0})) → Left t v new n ls x → Reads n ls x)
+    IsSection t n new × ((k : ℕ) → HasFew k new) × ((ls : List CertLine) (x : Outcome (Unit {0})) → Left t v new n ls x → Reads n ls x)
 Proceeds t v Reads n (nexts.Fault at why) = (at < n) × ((ls : List CertLine) → Reads n ls (faulted at why))
 
 -- some rows of a pair table are read, or all

@@ -9,11 +9,11 @@ use Rattle.cpt_tables.specs.declared.tables.Tables.{Tables}
 use Rattle.cpt_tables.specs.Shapes.{PairShape, DistShape, FitsPairs, FitsDists, IsWholePairs, IsWholeDists}
 use Rattle.cpt_sheet.specs.declared.data.NodeLine.{NodeLine}
 use Rattle.cpt_sheet.specs.Gaps.{FitsTask}
-use Rattle.cpt_cert.specs.declared.forms.Version.{Version}
-use Rattle.cpt_cert.specs.declared.forms.CertLine.{CertLine}
-use Rattle.cpt_cert.specs.declared.forms.CertLine.TheVariants as lines
-use Rattle.cpt_cert.specs.Forms.{IsReadAs}
-use Rattle.cpt_cert.specs.Text.{pair_row, dist_row}
+use Rattle.cpt_cert_form.specs.declared.forms.Version.{Version}
+use Rattle.cpt_cert_form.specs.declared.forms.CertLine.{CertLine}
+use Rattle.cpt_cert_form.specs.declared.forms.CertLine.TheVariants as lines
+use Rattle.cpt_cert_form.specs.Forms.{IsReadAs}
+use Rattle.cpt_cert_form.specs.Text.{pair_row, dist_row}
 use Rattle.cpt_verdict.specs.declared.faults.Why.TheVariants as whys
 use Rattle.cpt_verdict.specs.Accepting.{is_done, is_left}
 use Rattle.std.specs.Prelude.{count_by}
@@ -21,7 +21,8 @@ use Rattle.cpt_verdict.specs.Reading.{Outcome, Then, take_items, ReadsPlan, Judg
 use Rattle.cpt_verdict.specs.Reading.Outcome.{went, faulted}
 use Rattle.cpt_verdict.specs.Descent.{ReadsOpenTree, ReadsLastTree, ReadsTwoTrees, take_counted_end}
 use Rattle.cpt_walk.specs.declared.walk.Walk.{Walk}
-use Rattle.cpt_walk.specs.Walks.{ReadsParts, parts_left, IsWalk, IsUnread}
+use Rattle.cpt_verdict.specs.Texts.{bring_in}
+use Rattle.cpt_walk.specs.Walks.{ReadsParts, parts_left, IsWalk, IsUnread, AreFew}
 use Rattle.cpt_sections.specs.declared.section.Trees.{Trees}
 use Rattle.cpt_sections.specs.declared.section.Trees.TheVariants as trees
 use Rattle.cpt_sections.specs.declared.section.Aim.{Aim}
@@ -173,15 +174,22 @@ IsSection t n sections.End = Unit {0}
 IsSection t n (sections.CountedEnd counted) = Unit {0}
 IsSection t n sections.Done = Unit {0}
 
+-- of a tree of which lines are left each sheet has at most k tokens more than the two of each root
+abbrev pub HasFew : ℕ → Section → Type 0
+HasFew k (sections.Nodes trees b w) = AreFew k w
+HasFew k (sections.OpenNodes nodes b w) = AreFew k w
+HasFew k _ = Unit {0}
+
 -- the bytes of some line are read as this
 abbrev pub IsLine : CertLine → Type 0
 IsLine line = (bytes : List ℕ) × IsReadAs bytes line
 
--- Line n leads from a section to another: whatever comes behind the line is read from it as from there. Or it is known
--- from line n on that this is the first fault, whatever comes behind.
+-- Line n leads from a section to another: whatever comes behind the line is read from it as from there, and no sheet has
+-- more tokens than before, but for one that the line brings. Or it is known from line n on that this is the first fault,
+-- whatever comes behind.
 abbrev pub Moves : TaskShape → Version → Section → ℕ → CertLine → Next → Type 0
 Moves t v s n line (nexts.On new) =
-    IsSection t (n + 1) new × ((ls : List CertLine) (x : Outcome (Unit {0})) → Left t v new (n + 1) ls x → Left t v s n (line ∷ ls) x)
+    IsSection t (n + 1) new × ((k : ℕ) → HasFew k s → HasFew (k + bring_in line) new) × ((ls : List CertLine) (x : Outcome (Unit {0})) → Left t v new (n + 1) ls x → Left t v s n (line ∷ ls) x)
 Moves t v s n line (nexts.Fault at why) = (at ≤ n) × ((ls : List CertLine) → Left t v s n (line ∷ ls) (faulted at why))
 
 -- no line that can stand there comes

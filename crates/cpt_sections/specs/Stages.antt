@@ -1,11 +1,11 @@
 use Rattle.std.specs.Prelude.{◌≡◌, ℕ, ◌+◌, ◌≤◌, List, [], ◌∷◌, Option, None, Some}
 use Rattle.cpt_task.specs.Shape.{TaskShape}
-use Rattle.cpt_cert.specs.declared.forms.Version.{Version}
-use Rattle.cpt_cert.specs.declared.forms.Claim.{Claim}
-use Rattle.cpt_cert.specs.declared.forms.Claim.TheVariants as claims
-use Rattle.cpt_cert.specs.declared.forms.CertLine.{CertLine}
-use Rattle.cpt_cert.specs.declared.forms.CertLine.TheVariants as lines
-use Rattle.cpt_cert.specs.Forms.{IsClaim}
+use Rattle.cpt_cert_form.specs.declared.forms.Version.{Version}
+use Rattle.cpt_cert_form.specs.declared.forms.Claim.{Claim}
+use Rattle.cpt_cert_form.specs.declared.forms.Claim.TheVariants as claims
+use Rattle.cpt_cert_form.specs.declared.forms.CertLine.{CertLine}
+use Rattle.cpt_cert_form.specs.declared.forms.CertLine.TheVariants as lines
+use Rattle.cpt_cert_form.specs.Forms.{IsClaim}
 use Rattle.cpt_verdict.specs.declared.faults.Why.{Why}
 use Rattle.cpt_verdict.specs.declared.faults.Why.TheVariants as whys
 use Rattle.cpt_verdict.specs.Reading.{Outcome, Then, take_version, take_claim}
@@ -21,7 +21,8 @@ use Rattle.cpt_sections.specs.declared.section.Section.{Section}
 use Rattle.cpt_sections.specs.declared.section.Section.TheVariants as sections
 use Rattle.cpt_sections.specs.declared.section.Next.{Next}
 use Rattle.cpt_sections.specs.declared.section.Next.TheVariants as nexts
-use Rattle.cpt_sections.specs.Sections.{Left, IsSection, IsNothing}
+use Rattle.cpt_verdict.specs.Texts.{bring_in}
+use Rattle.cpt_sections.specs.Sections.{Left, IsSection, HasFew, IsNothing}
 
 -- how the reading of what is still to be read of a certificate ends, from line n on
 abbrev pub LeftOf : TaskShape → Stage → ℕ → List CertLine → Outcome (Version × Claim) → Type 0
@@ -36,6 +37,13 @@ IsStage t n stages.First = Unit {0}
 IsStage t n (stages.Claimed v) = Unit {0}
 IsStage t n (stages.Sized v claim) = (1 ≤ n) × IsClaim claim
 IsStage t n (stages.Within v claim s) = (2 ≤ n) × IsSection t n s
+
+-- of a tree of which lines are left each sheet has at most k tokens more than the two of each root
+abbrev pub HasFewAt : ℕ → Stage → Type 0
+HasFewAt k stages.First = Unit {0}
+HasFewAt k (stages.Claimed v) = Unit {0}
+HasFewAt k (stages.Sized v claim) = Unit {0}
+HasFewAt k (stages.Within v claim s) = HasFew k s
 
 -- the first section that the claim asks for
 abbrev pub first_section : Claim → Section
@@ -72,6 +80,7 @@ version_behind (stages.Within v claim s) line = Some v
 pub record Advances (t : TaskShape) (s : Stage) (n : ℕ) (line : CertLine) (new : Stage) : Type 0 where
   pub stage : IsStage t (n + 1) new
   pub version : version_at new ≡ version_behind s line
+  pub few : (k : ℕ) → HasFewAt k s → HasFewAt (k + bring_in line) new
   pub reads : (ls : List CertLine) (x : Outcome (Version × Claim)) → LeftOf t new (n + 1) ls x → LeftOf t s n (line ∷ ls) x
 
 -- it is known from line n on that this is the first fault, whatever comes behind

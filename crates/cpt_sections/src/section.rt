@@ -1,6 +1,6 @@
 //! What of a certificate is still to be read.
 
-use cpt_cert::{Claim, Version};
+use cpt_cert_read::{Claim, Version};
 use cpt_tables::{DistTable, PairTable, Tables};
 use cpt_task::Occ;
 use cpt_verdict::Why;

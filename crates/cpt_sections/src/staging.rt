@@ -2,9 +2,9 @@
 
 ghost use Rattle.std.specs.Prelude.{◌≡◌, ◌≤◌, ◌<◌, ◌^◌, ◌==◌, ◌&&◌, ℕ, length, IfOk, MatchBool};
 ghost use Rattle.cpt_task.specs.Shape.{TaskShape};
-ghost use Rattle.cpt_cert.specs.Forms.{IsClaim};
-ghost use Rattle.cpt_sections.specs.Sections.{IsSection, IsLine, Moves};
-ghost use Rattle.cpt_sections.specs.Stages.{IsStage, Turns, Ends, version_at, first_section, turned};
+ghost use Rattle.cpt_cert_form.specs.Forms.{IsClaim};
+ghost use Rattle.cpt_sections.specs.Sections.{IsSection, HasFew, IsLine, Moves};
+ghost use Rattle.cpt_sections.specs.Stages.{IsStage, HasFewAt, Turns, Ends, version_at, first_section, turned};
 
 use crate::planning::{at_item, at_plan};
 use crate::section::{Aim, Next, Section, Stage, Trees, Turned};
@@ -12,7 +12,7 @@ use crate::tabling::{at_dist_row, at_dists, at_pair_row, at_pairs};
 use crate::treeing::{
     at_counted_end, at_end, at_node, at_nothing, at_open_node, at_open_tree, at_tree,
 };
-use cpt_cert::{CertLine, Claim, Version};
+use cpt_cert_read::{CertLine, Claim, Version};
 use cpt_task::{Memory, Task};
 use cpt_verdict::Why;
 use std::alloc::Global;
@@ -100,6 +100,7 @@ pub(crate) fn take_section(
     line: &CertLine,
 ) -> Result<Next, Memory>
     requires section { IsSection task.now line_number section }
+    requires few { HasFew 4294967292 section }
     requires line { IsLine line.now }
     requires number { line_number < 2 ^ 40 }
     requires late { 2 ≤ line_number }
@@ -153,6 +154,7 @@ pub fn take_line(
     line: &CertLine,
 ) -> Result<Turned, Memory>
     requires stage { IsStage task.now line_number stage }
+    requires few { HasFewAt 4294967292 stage }
     requires line { IsLine line.now }
     requires number { line_number < 2 ^ 40 }
     requires atoms { length task.now.atoms ≤ 2048 }

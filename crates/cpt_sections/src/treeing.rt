@@ -4,16 +4,16 @@ ghost use Rattle.std.specs.Prelude.{◌≡◌, ℕ, ◌+◌, ◌<◌, ◌≤◌,
 ghost use Rattle.cpt_task.specs.Shape.{TaskShape};
 ghost use Rattle.cpt_sheet.specs.Gaps.{FitsTask};
 ghost use Rattle.cpt_calculus.specs.Root.{root_of};
-ghost use Rattle.cpt_cert.specs.declared.forms.CertLine.{CertLine};
-ghost use Rattle.cpt_cert.specs.declared.forms.Version.{Version};
+ghost use Rattle.cpt_cert_form.specs.declared.forms.CertLine.{CertLine};
+ghost use Rattle.cpt_cert_form.specs.declared.forms.Version.{Version};
 ghost use Rattle.cpt_verdict.specs.Trees.Part.{node};
-ghost use Rattle.cpt_walk.specs.Walks.{parts_left, IsUnread};
+ghost use Rattle.cpt_walk.specs.Walks.{parts_left, IsUnread, AreFew};
 ghost use Rattle.cpt_sections.specs.Behind.{first_bound, behind_tree};
 ghost use Rattle.cpt_sections.specs.Sections.{AreNodesLeft, IsSection, Moves};
 
 use crate::section::{Next, Section, Trees};
 use cpt_calculus::root;
-use cpt_cert::CertLine;
+use cpt_cert_read::CertLine;
 use cpt_tables::Tables;
 use cpt_task::{Memory, Task};
 use cpt_verdict::Why;
@@ -42,6 +42,7 @@ fn begin_root(
     requires bound { bound ≤ 1000000 }
     ensures parts { IfOk result (λ w. parts_left w ≡ node (root_of task.now tables.now bound) ∷ []) }
     ensures left { IfOk result (λ w. (n : ℕ) → AreNodesLeft task.now (n + 1) may_open w) }
+    ensures few { IfOk result (λ w. (k : ℕ) → AreFew k w) }
     ensures none { IfOk result (λ w. (w.past.done ≡ 0) × (w.past.left ≡ false)) }
 {
     let sheet = root(alloc, task, tables, bound)?;
@@ -112,6 +113,7 @@ pub(crate) fn at_node(
     line: &CertLine,
 ) -> Result<Next, Memory>
     requires section { IsSection task.now line_number (Section.Nodes trees tables walk) }
+    requires few { AreFew 4294967292 walk }
     requires number { line_number < 2 ^ 40 }
     ensures { IfOk result (λ next. (v : Version) → Moves task.now v (Section.Nodes trees tables walk) line_number line.now next) }
 {
@@ -196,6 +198,7 @@ pub(crate) fn at_open_node(
     line: &CertLine,
 ) -> Result<Next, Memory>
     requires section { IsSection task.now line_number (Section.OpenNodes nodes tables walk) }
+    requires few { AreFew 4294967292 walk }
     requires number { line_number < 2 ^ 40 }
     ensures { IfOk result (λ next. (v : Version) → Moves task.now v (Section.OpenNodes nodes tables walk) line_number line.now next) }
 {

@@ -13,9 +13,9 @@ use Rattle.cpt_ground.specs.declared.signed.Signed.{Signed}
 use Rattle.cpt_ground.proofs.Plans.{same_plans}
 use Rattle.cpt_reach.specs.Plans.{KeepsPlans, older_plan}
 use Rattle.cpt_soundness.specs.Sets.{HasSets}
-use Rattle.cpt_cert.specs.declared.forms.Claim.{Claim}
-use Rattle.cpt_cert.specs.declared.forms.Claim.TheVariants.{Optimal, NoneUpTo, Never, Spent}
-use Rattle.cpt_cert.specs.declared.forms.Version.{Version}
+use Rattle.cpt_cert_form.specs.declared.forms.Claim.{Claim}
+use Rattle.cpt_cert_form.specs.declared.forms.Claim.TheVariants.{Optimal, NoneUpTo, Never, Spent}
+use Rattle.cpt_cert_form.specs.declared.forms.Version.{Version}
 use Rattle.cpt_verdict.specs.declared.faults.Why.{Why}
 use Rattle.cpt_verdict.specs.Accepting.{Accepts}
 use Rattle.cpt_verdict.specs.Laws.{HoldsOf}

@@ -15,8 +15,8 @@ use Rattle.cpt_reach.specs.Plans.{older_plan}
 use Rattle.cpt_top.specs.Commands.{Answers, Asked, Asks, AsksChecking, AsksJudging, AsksListing, AsksValidation, ComesTo, HoldJudgedPlan, HoldKept, HoldValidPlan, IsUsage, IsValidWithAbsence, MayWrite, Reaches, checking, judging, listing, validation}
 use Rattle.cpt_files.proofs.Giving.{if_some_weaker}
 use Rattle.cpt_files.specs.Lines.{read_line, memory_line, valid_line}
-use Rattle.cpt_cert.specs.declared.forms.Claim.{Claim}
-use Rattle.cpt_cert.specs.declared.forms.Version.{Version}
+use Rattle.cpt_cert_form.specs.declared.forms.Claim.{Claim}
+use Rattle.cpt_cert_form.specs.declared.forms.Version.{Version}
 use Rattle.cpt_verdict.specs.declared.faults.Why.{Why}
 use Rattle.cpt_verdict.specs.Laws.{HoldsOf}
 use Rattle.cpt_top.specs.Claims.{HoldCertificate, HoldFault, HoldsOverGround, HoldsWithAbsence}

@@ -10,10 +10,10 @@ use Rattle.cpt_ground.specs.Reading.{IsReading}
 use Rattle.cpt_ground.specs.declared.signed.Signed.{Signed}
 use Rattle.cpt_ground.specs.Signed.{IsValidSigned, signed_makespan}
 use Rattle.cpt_reach.specs.declared.pruning.Pruned.{Pruned}
-use Rattle.cpt_cert.specs.declared.forms.Version.{Version}
-use Rattle.cpt_cert.specs.declared.forms.Claim.{Claim}
-use Rattle.cpt_cert.specs.declared.forms.Claim.TheVariants.{Optimal, NoneUpTo, Never, Spent}
-use Rattle.cpt_cert.specs.Text.{Parts}
+use Rattle.cpt_cert_form.specs.declared.forms.Version.{Version}
+use Rattle.cpt_cert_form.specs.declared.forms.Claim.{Claim}
+use Rattle.cpt_cert_form.specs.declared.forms.Claim.TheVariants.{Optimal, NoneUpTo, Never, Spent}
+use Rattle.cpt_cert_form.specs.Text.{Parts}
 use Rattle.cpt_verdict.specs.declared.faults.Why.{Why}
 use Rattle.cpt_verdict.specs.Accepting.{IsCertificate}
 use Rattle.cpt_check.specs.Judging.{IsRejected}

@@ -12,8 +12,8 @@ ghost use Rattle.cpt_top.specs.Commands.{Answers, AsksChecking, AsksJudging, Ask
 ghost use Rattle.cpt_files.specs.Ending.{Answer};
 ghost use Rattle.cpt_files.specs.Files.{Gives};
 ghost use Rattle.cpt_files.specs.Lines.{memory_line, read_line, valid_line};
-ghost use Rattle.cpt_cert.specs.declared.forms.Version.{Version};
-ghost use Rattle.cpt_cert.specs.declared.forms.Claim.{Claim};
+ghost use Rattle.cpt_cert_form.specs.declared.forms.Version.{Version};
+ghost use Rattle.cpt_cert_form.specs.declared.forms.Claim.{Claim};
 ghost use Rattle.cpt_verdict.specs.declared.faults.Why.{Why};
 ghost use Rattle.cpt_verdict.specs.Laws.{HoldsOf};
 ghost use Rattle.cpt_top.specs.Claims.{HoldCertificate, HoldFault, HoldsOverGround, HoldsWithAbsence};

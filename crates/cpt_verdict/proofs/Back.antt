@@ -15,12 +15,12 @@ use Rattle.cpt_sheet.specs.declared.data.NodeLine.{NodeLine}
 use Rattle.cpt_sheet.specs.declared.data.NodeLine.TheVariants.{Child, Narrow, Close, Branch}
 use Rattle.cpt_calculus.specs.Decisions.{applied}
 use Rattle.cpt_calculus.specs.Root.{root_of}
-use Rattle.cpt_cert.specs.declared.forms.Version.{Version}
-use Rattle.cpt_cert.specs.declared.forms.Claim.{Claim}
-use Rattle.cpt_cert.specs.declared.forms.Claim.TheVariants as claims
-use Rattle.cpt_cert.specs.declared.forms.CertLine.{CertLine}
-use Rattle.cpt_cert.specs.declared.forms.CertLine.TheVariants as lines
-use Rattle.cpt_cert.specs.Text.{Parts, row_runs, pair_row, dist_row, plan_lines, pair_lines, dist_lines, table_lines, tree_lines, open_lines, sections}
+use Rattle.cpt_cert_form.specs.declared.forms.Version.{Version}
+use Rattle.cpt_cert_form.specs.declared.forms.Claim.{Claim}
+use Rattle.cpt_cert_form.specs.declared.forms.Claim.TheVariants as claims
+use Rattle.cpt_cert_form.specs.declared.forms.CertLine.{CertLine}
+use Rattle.cpt_cert_form.specs.declared.forms.CertLine.TheVariants as lines
+use Rattle.cpt_cert_form.specs.Text.{Parts, row_runs, pair_row, dist_row, plan_lines, pair_lines, dist_lines, table_lines, tree_lines, open_lines, sections}
 use Rattle.cpt_verdict.specs.declared.faults.Why.{Why}
 use Rattle.cpt_verdict.specs.Trees.{Part, IsPart}
 use Rattle.cpt_verdict.specs.Trees.Part.{node, worked, branches}
@@ -83,18 +83,18 @@ part_back t b mo r i l y (branch s n flaw ls x o live stands h e) =
 part_back t b mo r i l y (flawless s n flaw ls o not_so e) = subst (IsReadPart t b mo (worked s) (lines.Node (Branch flaw) ∷ ls)) (sym e) tt
 part_back t b mo r i l y (strange s n ls o f e) = subst (IsReadPart t b mo (worked s) ls) (sym e) tt
 part_back t b mo r i l y (none s n ls o e) = subst (IsReadPart t b mo (branches s []) ls) (sym e) (IsPart.none s, refl)
-part_back t b mo r i l y (child s n d c ds ls one rest m x o same room h k e) =
+part_back t b mo r i l y (child s n d c ds ls one rest m x o same h k e) =
     go (part_back t b mo (node (applied t s d)) (n + 1) ls (went one rest m) h) x (part_back t b mo (branches s ds) m rest x k) e
   where
     go : IsReadPart t b mo (node (applied t s d)) ls (went one rest m) → (z : Outcome (List NodeLine)) → IsReadPart t b mo (branches s ds) rest z → o ≡ behind (λ f. Child d ∷ (one ++ f)) z → IsReadPart t b mo (branches s (d ∷ ds)) (lines.Node (Child c) ∷ ls) o
     go first (went more after j) p q =
         subst (IsReadPart t b mo (branches s (d ∷ ds)) (lines.Node (Child c) ∷ ls)) (sym q) (
-          IsPart.child s d ds one more (one ++ more) room first.0 p.0 refl,
+          IsPart.child s d ds one more (one ++ more) first.0 p.0 refl,
           ap (λ z. lines.Node (Child z) ∷ ls) same
               ∙ ap (λ z. lines.Node (Child d) ∷ z) (first.1 ∙ ap (λ z. as_lines one ++ z) p.1 ∙ sym (append_assoc (as_lines one) (as_lines more) after) ∙ ap (λ z. z ++ after) (sym (map-append (λ w. lines.Node w) one more))),
         )
     go first (faulted line why) p q = subst (IsReadPart t b mo (branches s (d ∷ ds)) (lines.Node (Child c) ∷ ls)) (sym q) tt
-part_back t b mo r i l y (inside s n d c ds ls line why o same room h e) = subst (IsReadPart t b mo (branches s (d ∷ ds)) (lines.Node (Child c) ∷ ls)) (sym e) tt
+part_back t b mo r i l y (inside s n d c ds ls line why o same h e) = subst (IsReadPart t b mo (branches s (d ∷ ds)) (lines.Node (Child c) ∷ ls)) (sym e) tt
 part_back t b mo r i l y (other s n d c ds ls o not_so e) = subst (IsReadPart t b mo (branches s (d ∷ ds)) (lines.Node (Child c) ∷ ls)) (sym e) tt
 part_back t b mo r i l y (childless s n d ds ls o f e) = subst (IsReadPart t b mo (branches s (d ∷ ds)) ls) (sym e) tt
 

@@ -20,16 +20,16 @@ use Rattle.cpt_sheet.specs.declared.data.Step.{Step}
 use Rattle.cpt_sheet.specs.declared.data.Step.TheVariants.{R1, R2, R3, R4, R5, R6, R7, R8, R9After, R9Ahead, R10, R11After, R11Ahead, R12After, R12Ahead, R13}
 use Rattle.cpt_sheet.specs.declared.data.NodeLine.{NodeLine}
 use Rattle.cpt_sheet.specs.declared.data.NodeLine.TheVariants.{Child, Narrow, Close, Branch, OpenNode}
-use Rattle.cpt_cert.specs.declared.forms.Version.{Version}
-use Rattle.cpt_cert.specs.declared.forms.Version.TheVariants.{One, Two}
-use Rattle.cpt_cert.specs.declared.forms.Claim.{Claim}
-use Rattle.cpt_cert.specs.declared.forms.Claim.TheVariants as claims
-use Rattle.cpt_cert.specs.declared.forms.Run.{Run}
-use Rattle.cpt_cert.specs.declared.forms.CertLine.{CertLine}
-use Rattle.cpt_cert.specs.declared.forms.CertLine.TheVariants as lines
-use Rattle.cpt_cert.specs.Forms.{IsShort, IsShortSpan, IsShortCand, IsShortStep, IsShortNode, IsShortDecision, IsShortFlaw, IsClaim, IsRowSpan, IsRun, IsWritten, span_word, cand_word, run_word, step_words, node_words, decision_words, flaw_words, claim_words, line_words, joined, spelled}
-use Rattle.cpt_cert.specs.Lines.{HasNoEnd}
-use Rattle.cpt_cert.proofs.Numerals.{own}
+use Rattle.cpt_cert_form.specs.declared.forms.Version.{Version}
+use Rattle.cpt_cert_form.specs.declared.forms.Version.TheVariants.{One, Two}
+use Rattle.cpt_cert_form.specs.declared.forms.Claim.{Claim}
+use Rattle.cpt_cert_form.specs.declared.forms.Claim.TheVariants as claims
+use Rattle.cpt_cert_form.specs.declared.forms.Run.{Run}
+use Rattle.cpt_cert_form.specs.declared.forms.CertLine.{CertLine}
+use Rattle.cpt_cert_form.specs.declared.forms.CertLine.TheVariants as lines
+use Rattle.cpt_cert_form.specs.Forms.{IsShort, IsShortSpan, IsShortCand, IsShortStep, IsShortNode, IsShortDecision, IsShortFlaw, IsClaim, IsRowSpan, IsRun, IsWritten, span_word, cand_word, run_word, step_words, node_words, decision_words, flaw_words, claim_words, line_words, joined, spelled}
+use Rattle.cpt_cert_read.specs.Lines.{HasNoEnd}
+use Rattle.cpt_cert_read.proofs.Numerals.{own}
 
 -- no line feed stands in it
 abbrev is_unfed : List ℕ → Bool

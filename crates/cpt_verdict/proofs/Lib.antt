@@ -1,4 +1,6 @@
 pub mod Back
+pub mod Brings
+pub mod BringBytes
 pub mod Feedless
 pub mod OneOutcome
 pub mod OneReading

@@ -9,10 +9,10 @@ use Rattle.cpt_tables.specs.declared.faults.DistFault.{DistFault}
 use Rattle.cpt_tables.specs.Shapes.{PairShape, DistShape}
 use Rattle.cpt_tables.specs.Admissible.{IsAdmissiblePairs, IsAdmissibleDists, IsPairFault, IsDistFault}
 use Rattle.cpt_calculus.specs.Root.{root_of}
-use Rattle.cpt_cert.specs.declared.forms.Version.{Version}
-use Rattle.cpt_cert.specs.declared.forms.Claim.{Claim}
-use Rattle.cpt_cert.specs.declared.forms.Claim.TheVariants as claims
-use Rattle.cpt_cert.specs.declared.forms.CertLine.{CertLine}
+use Rattle.cpt_cert_form.specs.declared.forms.Version.{Version}
+use Rattle.cpt_cert_form.specs.declared.forms.Claim.{Claim}
+use Rattle.cpt_cert_form.specs.declared.forms.Claim.TheVariants as claims
+use Rattle.cpt_cert_form.specs.declared.forms.CertLine.{CertLine}
 use Rattle.cpt_verdict.specs.declared.faults.Why.TheVariants as whys
 use Rattle.cpt_verdict.specs.Trees.Part.{node}
 use Rattle.cpt_verdict.specs.Reading.{Outcome, Then, take_version, take_claim, take_sizes, take_plan, take_pairs, take_dists, take_tree, take_open_tree, take_end, JudgesPlan, JudgesPairs, JudgesDists, JudgesGoal, ReadsPlan, ReadsPairs, ReadsDists}

@@ -9,7 +9,7 @@ use Rattle.cpt_sheet.specs.declared.data.NodeLine.TheVariants.{Child, Narrow, Br
 use Rattle.cpt_calculus.specs.Rules.{narrowed}
 use Rattle.cpt_calculus.specs.Decisions.{applied}
 use Rattle.cpt_calculus.specs.Flaws.{children}
-use Rattle.cpt_cert.specs.declared.forms.CertLine.{CertLine}
+use Rattle.cpt_cert_form.specs.declared.forms.CertLine.{CertLine}
 use Rattle.cpt_verdict.specs.Trees.{Part}
 use Rattle.cpt_verdict.specs.Trees.Part.{node, worked, branches}
 use Rattle.cpt_verdict.specs.Reading.{Outcome, After, Then, behind}
@@ -95,36 +95,36 @@ one_reading t b may_open r i l y z (strange s1 n1 ls1 o1 f1 e1) (strange s2 n2 l
     e1 ∙ sym e2
 one_reading t b may_open r i l y z (none s1 n1 ls1 o1 e1) (none s2 n2 ls2 o2 e2) =
     e1 ∙ sym e2
-one_reading t b may_open r i l y z (child s1 n1 d1 c1 ds1 ls1 one1 rest1 m1 x1 o1 same1 room1 h1 k1 e1) (child s2 n2 d2 c2 ds2 ls2 one2 rest2 m2 x2 o2 same2 room2 h2 k2 e2) =
+one_reading t b may_open r i l y z (child s1 n1 d1 c1 ds1 ls1 one1 rest1 m1 x1 o1 same1 h1 k1 e1) (child s2 n2 d2 c2 ds2 ls2 one2 rest2 m2 x2 o2 same2 h2 k2 e2) =
     let again : went one1 rest1 m1 ≡ went one2 rest2 m2 = one_reading t b may_open (node (applied t s1 d1)) (n1 + 1) ls1 (went one1 rest1 m1) (went one2 rest2 m2) h1 h2 in
     let later : Rest t b may_open s1 d1 ds1 (went one1 rest1 m1) o2 = subst (λ w. Rest t b may_open s1 d1 ds1 w o2) (sym again) (x2, k2, e2) in
     let last : x1 ≡ later.0 = one_reading t b may_open (branches s1 ds1) m1 rest1 x1 later.0 k1 later.1 in
     e1 ∙ ap (behind (λ f. Child d1 ∷ (one1 ++ f))) last ∙ sym later.2
-one_reading t b may_open r i l y z (child s1 n1 d1 c1 ds1 ls1 one1 rest1 m1 x1 o1 same1 room1 h1 k1 e1) (inside s2 n2 d2 c2 ds2 ls2 line2 why2 o2 same2 room2 h2 e2) =
+one_reading t b may_open r i l y z (child s1 n1 d1 c1 ds1 ls1 one1 rest1 m1 x1 o1 same1 h1 k1 e1) (inside s2 n2 d2 c2 ds2 ls2 line2 why2 o2 same2 h2 e2) =
     let again : went one1 rest1 m1 ≡ faulted line2 why2 = one_reading t b may_open (node (applied t s1 d1)) (n1 + 1) ls1 (went one1 rest1 m1) (faulted line2 why2) h1 h2 in absurd (cc)
-one_reading t b may_open r i l y z (child s1 n1 d1 c1 ds1 ls1 one1 rest1 m1 x1 o1 same1 room1 h1 k1 e1) (other s2 n2 d2 c2 ds2 ls2 o2 no2 e2) =
+one_reading t b may_open r i l y z (child s1 n1 d1 c1 ds1 ls1 one1 rest1 m1 x1 o1 same1 h1 k1 e1) (other s2 n2 d2 c2 ds2 ls2 o2 no2 e2) =
     absurd (no2 same1)
-one_reading t b may_open r i l y z (child s1 n1 d1 c1 ds1 ls1 one1 rest1 m1 x1 o1 same1 room1 h1 k1 e1) (childless s2 n2 d2 ds2 ls2 o2 f2 e2) =
+one_reading t b may_open r i l y z (child s1 n1 d1 c1 ds1 ls1 one1 rest1 m1 x1 o1 same1 h1 k1 e1) (childless s2 n2 d2 ds2 ls2 o2 f2 e2) =
     absurd (cc)
-one_reading t b may_open r i l y z (inside s1 n1 d1 c1 ds1 ls1 line1 why1 o1 same1 room1 h1 e1) (child s2 n2 d2 c2 ds2 ls2 one2 rest2 m2 x2 o2 same2 room2 h2 k2 e2) =
+one_reading t b may_open r i l y z (inside s1 n1 d1 c1 ds1 ls1 line1 why1 o1 same1 h1 e1) (child s2 n2 d2 c2 ds2 ls2 one2 rest2 m2 x2 o2 same2 h2 k2 e2) =
     let again : faulted line1 why1 ≡ went one2 rest2 m2 = one_reading t b may_open (node (applied t s1 d1)) (n1 + 1) ls1 (faulted line1 why1) (went one2 rest2 m2) h1 h2 in absurd (cc)
-one_reading t b may_open r i l y z (inside s1 n1 d1 c1 ds1 ls1 line1 why1 o1 same1 room1 h1 e1) (inside s2 n2 d2 c2 ds2 ls2 line2 why2 o2 same2 room2 h2 e2) =
+one_reading t b may_open r i l y z (inside s1 n1 d1 c1 ds1 ls1 line1 why1 o1 same1 h1 e1) (inside s2 n2 d2 c2 ds2 ls2 line2 why2 o2 same2 h2 e2) =
     e1 ∙ one_reading t b may_open (node (applied t s1 d1)) (n1 + 1) ls1 (faulted line1 why1) (faulted line2 why2) h1 h2 ∙ sym e2
-one_reading t b may_open r i l y z (inside s1 n1 d1 c1 ds1 ls1 line1 why1 o1 same1 room1 h1 e1) (other s2 n2 d2 c2 ds2 ls2 o2 no2 e2) =
+one_reading t b may_open r i l y z (inside s1 n1 d1 c1 ds1 ls1 line1 why1 o1 same1 h1 e1) (other s2 n2 d2 c2 ds2 ls2 o2 no2 e2) =
     absurd (no2 same1)
-one_reading t b may_open r i l y z (inside s1 n1 d1 c1 ds1 ls1 line1 why1 o1 same1 room1 h1 e1) (childless s2 n2 d2 ds2 ls2 o2 f2 e2) =
+one_reading t b may_open r i l y z (inside s1 n1 d1 c1 ds1 ls1 line1 why1 o1 same1 h1 e1) (childless s2 n2 d2 ds2 ls2 o2 f2 e2) =
     absurd (cc)
-one_reading t b may_open r i l y z (other s1 n1 d1 c1 ds1 ls1 o1 no1 e1) (child s2 n2 d2 c2 ds2 ls2 one2 rest2 m2 x2 o2 same2 room2 h2 k2 e2) =
+one_reading t b may_open r i l y z (other s1 n1 d1 c1 ds1 ls1 o1 no1 e1) (child s2 n2 d2 c2 ds2 ls2 one2 rest2 m2 x2 o2 same2 h2 k2 e2) =
     absurd (no1 same2)
-one_reading t b may_open r i l y z (other s1 n1 d1 c1 ds1 ls1 o1 no1 e1) (inside s2 n2 d2 c2 ds2 ls2 line2 why2 o2 same2 room2 h2 e2) =
+one_reading t b may_open r i l y z (other s1 n1 d1 c1 ds1 ls1 o1 no1 e1) (inside s2 n2 d2 c2 ds2 ls2 line2 why2 o2 same2 h2 e2) =
     absurd (no1 same2)
 one_reading t b may_open r i l y z (other s1 n1 d1 c1 ds1 ls1 o1 no1 e1) (other s2 n2 d2 c2 ds2 ls2 o2 no2 e2) =
     e1 ∙ sym e2
 one_reading t b may_open r i l y z (other s1 n1 d1 c1 ds1 ls1 o1 no1 e1) (childless s2 n2 d2 ds2 ls2 o2 f2 e2) =
     absurd (cc)
-one_reading t b may_open r i l y z (childless s1 n1 d1 ds1 ls1 o1 f1 e1) (child s2 n2 d2 c2 ds2 ls2 one2 rest2 m2 x2 o2 same2 room2 h2 k2 e2) =
+one_reading t b may_open r i l y z (childless s1 n1 d1 ds1 ls1 o1 f1 e1) (child s2 n2 d2 c2 ds2 ls2 one2 rest2 m2 x2 o2 same2 h2 k2 e2) =
     absurd (cc)
-one_reading t b may_open r i l y z (childless s1 n1 d1 ds1 ls1 o1 f1 e1) (inside s2 n2 d2 c2 ds2 ls2 line2 why2 o2 same2 room2 h2 e2) =
+one_reading t b may_open r i l y z (childless s1 n1 d1 ds1 ls1 o1 f1 e1) (inside s2 n2 d2 c2 ds2 ls2 line2 why2 o2 same2 h2 e2) =
     absurd (cc)
 one_reading t b may_open r i l y z (childless s1 n1 d1 ds1 ls1 o1 f1 e1) (other s2 n2 d2 c2 ds2 ls2 o2 no2 e2) =
     absurd (cc)

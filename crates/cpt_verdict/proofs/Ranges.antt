@@ -1,5 +1,5 @@
 -- the numbers in the lines of a tree are those of tokens, atoms and actions that are there
-use Rattle.std.proofs.Common.{◌≡◌, ℕ, suc, ◌<◌, ◌≤◌, ◌==◌, ◌||◌, if◌then◌else◌, true, false, Bool, List, [], ◌∷◌, ◌++◌, length, Contains, inl, inr, refl, sym, ap, ◌∙◌, subst, arith, length-append}
+use Rattle.std.proofs.Common.{◌≡◌, ℕ, suc, ◌+◌, ◌<◌, ◌≤◌, ◌==◌, ◌||◌, if◌then◌else◌, true, false, Bool, List, [], ◌∷◌, ◌++◌, length, Contains, inl, inr, refl, sym, ap, ◌∙◌, subst, arith, length-append}
 use Rattle.std.specs.Prelude.{Some}
 use Rattle.std.specs.List.{find}
 use Rattle.std.specs.Option.{option_map_or}
@@ -47,10 +47,11 @@ use Rattle.cpt_soundness.proofs.RootFormedLemmas.{root_formed}
 use Rattle.cpt_soundness.proofs.ActingLemmas.{atom_there, deleter_there, clash_there, clash_there_last}
 use Rattle.cpt_soundness.proofs.FormedLemmas.{applied_formed}
 use Rattle.cpt_soundness.proofs.FitLemmas.{children_fit}
-use Rattle.cpt_cert.specs.Forms.{capped, capped_cand, capped_decision, capped_flaw, capped_step, capped_node}
-use Rattle.cpt_verdict.specs.Trees.{Part, IsPart}
+use Rattle.cpt_cert_form.specs.Forms.{capped, capped_cand, capped_decision, capped_flaw, capped_step, capped_node}
+use Rattle.cpt_verdict.specs.Trees.{Part, IsPart, bring_of, brings}
 use Rattle.cpt_verdict.specs.Trees.Part.{node, worked, branches}
 use Rattle.cpt_verdict.specs.Trees.IsPart.{left, whole, step, close, branch, none, child}
+use Rattle.cpt_verdict.proofs.Brings.{count_narrowed, count_applied, brings_append}
 
 -- below the number that stands for all numbers from it on
 abbrev pub IsSmall : ℕ → Type 0
@@ -191,7 +192,7 @@ small_append (l ∷ ls) more h k = (h.0, small_append ls more h.1 k)
 
 module _ (t : TaskShape) (b : Tables) (inside : InBounds t) where
   -- so few tokens that each number of one is small
-  abbrev IsFew : Sheet → Type 0
+  abbrev pub IsFew : Sheet → Type 0
   IsFew s = length s.tokens ≤ 4294967295
 
   need_there : (s : Sheet) (x p : ℕ) → has_need s x p ≡ true → x < length s.tokens
@@ -243,7 +244,7 @@ module _ (t : TaskShape) (b : Tables) (inside : InBounds t) where
       second End c = absurd c
       second (Act d) c = c.second
 
-  legal_small : (s : Sheet) (rule : Step) → IsFormed t s → IsFew s → IsLegal t b s rule → IsSmallStep rule
+  pub legal_small : (s : Sheet) (rule : Step) → IsFormed t s → IsFew s → IsLegal t b s rule → IsSmallStep rule
   legal_small s rule f few legal = go rule legal.allowed
     where
       go : (r : Step) → Allowed t b s r → IsSmallStep r
@@ -280,7 +281,7 @@ module _ (t : TaskShape) (b : Tables) (inside : InBounds t) where
   listed_small s x p c f few h =
       let n = need_small s x p f few (need_of_list p c (token_at s x).lists h) in (n.0, n.1, cand_small s x p c f few h)
 
-  flaw_small : (s : Sheet) (flaw : Flaw) → IsFormed t s → IsFew s → IsFlaw t s flaw → IsSmallFlaw flaw
+  pub flaw_small : (s : Sheet) (flaw : Flaw) → IsFormed t s → IsFew s → IsFlaw t s flaw → IsSmallFlaw flaw
   flaw_small s (Threat x p d) f few h = let k = h.1 in let n = need_small s x p f few k.need in (n.0, n.1, deleter_small s d p few k.deletes)
   flaw_small s (OpenNeed x p) f few h = go (cands s x p) refl
     where
@@ -290,48 +291,48 @@ module _ (t : TaskShape) (b : Tables) (inside : InBounds t) where
           let k = listed_small s x p c f few (subst (λ ds. has c ds ≡ true) (sym e) (or_left (same c c) (has c cs) (same_self c))) in (k.0, k.1)
   flaw_small s (Clash x y) f few h = clash_small s x y few h.interfere
 
-  fit_small : (s : Sheet) (d : Decision) → IsFormed t s → IsFew s → Fits s d → IsSmallDecision d
+  pub fit_small : (s : Sheet) (d : Decision) → IsFormed t s → IsFew s → Fits s d → IsSmallDecision d
   fit_small s (Join x p y) f few h = listed_small s x p (Tok y) f few h
   fit_small s (Bring x p a) f few h = listed_small s x p (Out a) f few h
   fit_small s (Before x y) f few h = (token_small s x few h.first, token_small s y few h.second)
 
-  narrowed_few : (s : Sheet) (c : Change) → IsFew s → IsFew (changed s c)
-  narrowed_few s (Raise c v) few = let e = tokens_with_span s c (record (span_of s c) { lo = v }) in omega (arith, e, few)
-  narrowed_few s (Lower c v) few = let e = tokens_with_span s c (record (span_of s c) { hi = moment_or v (hi s c) }) in omega (arith, e, few)
-  narrowed_few s (Take x p c) few = let e = count_with_list s x p (without c) in omega (arith, e, few)
-  narrowed_few s (Post x y) few = few
+  -- a formed sheet with so many tokens at most
+  pub record IsSoundSheet (k : ℕ) (s : Sheet) : Type 0 where
+    pub formed : IsFormed t s
+    pub few : length s.tokens ≤ k
 
-  applied_few : (s : Sheet) (d : Decision) → length s.tokens < 4294967295 → IsFew (applied t s d)
-  applied_few s (Join x p y) room = let e = count_with_list s x p (λ cs. Tok y ∷ []) in omega (arith, e, room)
-  applied_few s (Bring x p a) room =
-      let n = length s.tokens in
-      let old = joined (with_offers s a n) x p n in
-      let e = count_with_list (with_offers s a n) x p (λ cs. Tok n ∷ []) in
-      let m = length-map s.tokens (offered a n) in
-      let k = length-append old.tokens (brought t s a ∷ []) in omega (arith, e, m, k, room)
-  applied_few s (Before x y) room = omega (arith, room)
+  abbrev pub IsSound : ℕ → Part → Type 0
+  IsSound k (node s) = IsSoundSheet k s
+  IsSound k (worked s) = IsSoundSheet k s
+  IsSound k (branches s ds) = IsSoundSheet k s × ((d : Decision) → Contains ds d → Fits s d)
 
-  abbrev IsSound : Part → Type 0
-  IsSound (node s) = IsFormed t s × IsFew s
-  IsSound (worked s) = IsFormed t s × IsFew s
-  IsSound (branches s ds) = IsFormed t s × IsFew s × ((d : Decision) → Contains ds d → Fits s d)
-
-  -- the numbers in the lines of a part of a tree
-  pub part_small : (mo : Bool) (part : Part) (f : List NodeLine) → IsPart t b mo part f → IsSound part → AllSmall f
-  part_small mo r l (left s e) h = (tt, tt)
-  part_small mo r l (whole s ls k) h = part_small mo (worked s) ls k h
-  part_small mo r l (step s rule ls legal k) h =
-      (legal_small s rule h.0 h.1 legal, part_small mo (worked (narrowed s rule)) ls k (step_formed t b s rule h.0 legal, narrowed_few s (change_of s rule) h.1))
-  part_small mo r l (close s dead) h = (tt, tt)
-  part_small mo r l (branch s flaw ls live stands k) h = (flaw_small s flaw h.0 h.1 stands, part_small mo (branches s (children s flaw)) ls k (h.0, h.1, children_fit t s flaw h.0 stands))
-  part_small mo r l (none s) h = tt
-  part_small mo r l (child s d ds ls more all room k j e) h =
-      let fits : Fits s d = h.2 d (0, omega arith, refl) in (
-        fit_small s d h.0 h.1 fits,
+  -- the numbers in the lines of a part of a tree, which bring no more tokens than there are small numbers
+  pub part_small : (mo : Bool) (n : ℕ) (part : Part) (f : List NodeLine) → IsPart t b mo part f → IsSound n part → n + brings f ≤ 4294967295 → AllSmall f
+  part_small mo n r l (left s e) h le = (tt, tt)
+  part_small mo n r l (whole s ls k) h le = part_small mo n (worked s) ls k h le
+  part_small mo n r l (step s rule ls legal k) h le =
+      let few = h.few in
+      let same = count_narrowed s (change_of s rule) in (
+        legal_small s rule h.formed (omega (arith, few, le)) legal,
+        part_small mo n (worked (narrowed s rule)) ls k (record { formed = step_formed t b s rule h.formed legal; few = omega (arith, same, few) }) (omega (arith, le)),
+      )
+  part_small mo n r l (close s dead) h le = (tt, tt)
+  part_small mo n r l (branch s flaw ls live stands k) h le =
+      let few = h.few in
+      (flaw_small s flaw h.formed (omega (arith, few, le)) stands, part_small mo n (branches s (children s flaw)) ls k (h, children_fit t s flaw h.formed stands) (omega (arith, le)))
+  part_small mo n r l (none s) h le = tt
+  part_small mo n r l (child s d ds ls more all k j e) h le =
+      let fits : Fits s d = h.1 d (0, omega arith, refl) in
+      let few = h.0.few in
+      let all_brings : brings all ≡ brings ls + brings more = ap brings e ∙ brings_append ls more in
+      let count = count_applied t s d in (
+        fit_small s d h.0.formed (omega (arith, few, le)) fits,
         subst AllSmall (sym e) (
-            small_append ls more (part_small mo (node (applied t s d)) ls k (applied_formed t s d h.0 fits, applied_few s d room)) (part_small mo (branches s ds) more j (h.0, h.1, λ c m. h.2 c (suc m.0, (let q = m.1 in omega (arith, q)), m.2)))
+            small_append ls more
+            (part_small mo (n + bring_of (Child d)) (node (applied t s d)) ls k (record { formed = applied_formed t s d h.0.formed fits; few = omega (arith, count, few) }) (omega (arith, all_brings, le)))
+            (part_small mo n (branches s ds) more j (h.0, λ c m. h.1 c (suc m.0, (let q = m.1 in omega (arith, q)), m.2)) (omega (arith, all_brings, le)))
             ),
       )
 
-  pub tree_small : (mo : Bool) (bound : ℕ) (f : List NodeLine) → FitsTask t b → bound ≤ 1000000 → IsPart t b mo (node (root_of t b bound)) f → AllSmall f
-  tree_small mo bound f fits le h = part_small mo (node (root_of t b bound)) f h (root_formed t b bound inside fits le, omega arith)
+  pub tree_small : (mo : Bool) (bound : ℕ) (f : List NodeLine) → FitsTask t b → bound ≤ 1000000 → IsPart t b mo (node (root_of t b bound)) f → 2 + brings f ≤ 4294967295 → AllSmall f
+  tree_small mo bound f fits le h few = part_small mo 2 (node (root_of t b bound)) f h (record { formed = root_formed t b bound inside fits le; few = omega arith }) few

@@ -3,12 +3,12 @@ use Rattle.std.proofs.Common.{◌≡◌, ℕ, zero, suc, ◌+◌, ◌≤◌, ◌
 use Rattle.std.proofs.lemmas.Bool.{and_parts, and_from, eqb-true, eq-eqb}
 use Rattle.cpt_task.specs.declared.span.Span.{Span}
 use Rattle.cpt_task.specs.declared.span.Span.TheVariants.{At, Never}
-use Rattle.cpt_cert.specs.declared.forms.Version.{Version}
-use Rattle.cpt_cert.specs.declared.forms.Version.TheVariants.{One, Two}
-use Rattle.cpt_cert.specs.declared.forms.Run.{Run}
-use Rattle.cpt_cert.specs.Text.{same_span, once, run_before, runs_of, row_runs}
+use Rattle.cpt_cert_form.specs.declared.forms.Version.{Version}
+use Rattle.cpt_cert_form.specs.declared.forms.Version.TheVariants.{One, Two}
+use Rattle.cpt_cert_form.specs.declared.forms.Run.{Run}
+use Rattle.cpt_cert_form.specs.Text.{same_span, once, run_before, runs_of, row_runs}
 use Rattle.cpt_verdict.specs.Laws.{AreFilled}
-use Rattle.cpt_cert.specs.Reading.{are_alone, are_runs}
+use Rattle.cpt_cert_read.specs.Reading.{are_alone, are_runs}
 use Rattle.cpt_verdict.specs.Reading.{values_of, is_form, is_row}
 
 pub same_span_true : (v w : Span) → same_span v w ≡ true → v ≡ w

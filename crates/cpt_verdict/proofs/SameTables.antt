@@ -12,7 +12,7 @@ use Rattle.cpt_tables.specs.Admissible.{IsAdmissiblePairs, IsAdmissibleDists, Is
 use Rattle.std.proofs.Math.Nat.{suc-mul}
 use Rattle.cpt_tables.specs.Shapes.{PairShape, DistShape, row_start, pair_place, pair_at, dist_at, IsWholePairs, IsWholeDists}
 use Rattle.cpt_tables.proofs.PlaceLemmas.{row_next}
-use Rattle.cpt_cert.specs.Text.{pair_row, dist_row}
+use Rattle.cpt_cert_form.specs.Text.{pair_row, dist_row}
 use Rattle.cpt_verdict.specs.Reading.{pair_rows, dist_rows, IsPairsOf, IsDistsOf}
 
 cases_lt : (a b : ℕ) → (a < b) ⊎ (b ≤ a)

@@ -1,67 +1,31 @@
--- the lines of a text are read in one way, and a text is accepted exactly where its lines are read whole
-use Rattle.std.proofs.Common.{◌≡◌, ◌≢◌, ℕ, zero, suc, ◌+◌, ◌≤◌, inl, inr, true, false, List, [], ◌∷◌, ◌++◌, length, map, All, refl, sym, ap, ◌∙◌, subst, arith, append_assoc, append-nil}
+-- a text is accepted exactly where its lines are read whole
+use Rattle.std.proofs.Common.{◌≡◌, ◌≢◌, ℕ, zero, suc, ◌+◌, ◌≤◌, ◌^◌, inl, inr, true, false, List, [], ◌∷◌, ◌++◌, length, map, All, refl, sym, ap, ◌∙◌, subst, arith, append_assoc, append-nil}
 use Rattle.std.specs.List.{flat_map, AllZip, range_with_len}
-use Rattle.std.proofs.lemmas.List.Elements.{All-head, All-tail, All-nil, All-cons, All-contains, Contains-append_right}
+use Rattle.std.proofs.lemmas.List.Elements.{All-head, All-tail, All-nil, All-cons, All-contains}
 use Rattle.cpt_task.specs.declared.plan.Occ.{Occ}
 use Rattle.cpt_task.specs.Shape.{TaskShape, InBounds}
 use Rattle.cpt_tables.specs.declared.tables.Tables.{Tables}
 use Rattle.cpt_tables.specs.Shapes.{PairShape}
 use Rattle.cpt_sheet.specs.declared.data.NodeLine.{NodeLine}
-use Rattle.cpt_cert.specs.declared.forms.Version.{Version}
-use Rattle.cpt_cert.specs.declared.forms.Claim.{Claim}
-use Rattle.cpt_cert.specs.declared.forms.Claim.TheVariants as claims
-use Rattle.cpt_cert.specs.declared.forms.Run.{Run}
-use Rattle.cpt_cert.specs.declared.forms.CertLine.{CertLine}
-use Rattle.cpt_cert.specs.declared.forms.CertLine.TheVariants as lines
-use Rattle.cpt_cert.specs.Forms.{spelled, capped_line, IsWritten, IsRun, IsClaim, IsReadAs}
-use Rattle.cpt_cert.specs.Lines.{HasNoEnd}
-use Rattle.cpt_cert.specs.Text.{Parts, row_runs, pair_row, dist_row, plan_lines, pair_lines, dist_lines, table_lines, tree_lines, open_lines, sections, cert_lines}
+use Rattle.cpt_cert_form.specs.declared.forms.Version.{Version}
+use Rattle.cpt_cert_form.specs.declared.forms.Claim.{Claim}
+use Rattle.cpt_cert_form.specs.declared.forms.Claim.TheVariants as claims
+use Rattle.cpt_cert_form.specs.declared.forms.Run.{Run}
+use Rattle.cpt_cert_form.specs.declared.forms.CertLine.{CertLine}
+use Rattle.cpt_cert_form.specs.declared.forms.CertLine.TheVariants as lines
+use Rattle.cpt_cert_form.specs.Forms.{spelled, capped_line, IsWritten, IsRun, IsClaim, IsReadAs}
+use Rattle.cpt_cert_form.specs.Text.{Parts, row_runs, pair_row, dist_row, plan_lines, pair_lines, dist_lines, table_lines, tree_lines, open_lines, sections, cert_lines}
 use Rattle.cpt_verdict.specs.Accepting.{Proves, HasTables, IsClosedAt, IsInForm, Accepts}
 use Rattle.cpt_verdict.specs.Reading.Outcome.{went}
 use Rattle.cpt_verdict.specs.Descent.{ReadsAll}
 use Rattle.cpt_verdict.specs.Laws.{AreFilled, IsFilledLine, AllFilled}
-use Rattle.cpt_verdict.specs.Texts.{ended, IsSplit, unended, AreLinesOf}
+use Rattle.cpt_cert_read.specs.Texts.{ended, IsSplit, unended, AreLinesOf}
+use Rattle.cpt_verdict.specs.Texts.{brings_in}
+use Rattle.cpt_verdict.specs.Trees.{brings}
 use Rattle.cpt_verdict.proofs.Back.{lines_back}
+use Rattle.cpt_verdict.proofs.BringBytes.{brings_in_append, brings_in_nodes, text_bytes}
 use Rattle.cpt_verdict.proofs.Whole.{item}
 use Rattle.cpt_verdict.proofs.Ranges.{IsSmallNode, AllSmall, raw_node, kept_node, tree_small}
-
--- two texts that go on behind a first line end are cut there alike
-cut_once : (a b x y : List ℕ) → HasNoEnd a → HasNoEnd b → a ++ 10 ∷ x ≡ b ++ 10 ∷ y → (a ≡ b) × (x ≡ y)
-cut_once [] [] x y p q e = (refl, tail_of 10 10 x y e)
-  where
-    tail_of : (c d : ℕ) (xs ys : List ℕ) → c ∷ xs ≡ d ∷ ys → xs ≡ ys
-    tail_of c d xs ys e = cc
-cut_once [] (c ∷ b) x y p q e = absurd (All-head (λ z. z ≢ 10) c b q (let k : 10 ≡ c = head_of 10 c x (b ++ 10 ∷ y) e in sym k))
-  where
-    head_of : (c d : ℕ) (xs ys : List ℕ) → c ∷ xs ≡ d ∷ ys → c ≡ d
-    head_of c d xs ys e = cc
-cut_once (c ∷ a) [] x y p q e = absurd (All-head (λ z. z ≢ 10) c a p (head_of c 10 (a ++ 10 ∷ x) y e))
-  where
-    head_of : (c d : ℕ) (xs ys : List ℕ) → c ∷ xs ≡ d ∷ ys → c ≡ d
-    head_of c d xs ys e = cc
-cut_once (c ∷ a) (d ∷ b) x y p q e =
-    let k = cut_once a b x y (All-tail (λ z. z ≢ 10) c a p) (All-tail (λ z. z ≢ 10) d b q) (tails e) in let h : c ≡ d = heads e in let j = k.0 in (cc, k.1)
-  where
-    tails : c ∷ (a ++ 10 ∷ x) ≡ d ∷ (b ++ 10 ∷ y) → a ++ 10 ∷ x ≡ b ++ 10 ∷ y
-    tails e = cc
-
-    heads : c ∷ (a ++ 10 ∷ x) ≡ d ∷ (b ++ 10 ∷ y) → c ≡ d
-    heads e = cc
-
-no_feed : (a x : List ℕ) → HasNoEnd (a ++ 10 ∷ x) → ⊥
-no_feed a x h = All-contains (λ z. z ≢ 10) (a ++ 10 ∷ x) 10 h (Contains-append_right a (10 ∷ x) 10 (0, omega arith, refl)) refl
-
-one_more : (body : List ℕ) (bodies : List (List ℕ)) (tail : List ℕ) → ended (body ∷ bodies) ++ tail ≡ body ++ 10 ∷ (ended bodies ++ tail)
-one_more body bodies tail = append_assoc (body ++ 10 ∷ []) (ended bodies) tail ∙ append_assoc body (10 ∷ []) (ended bodies ++ tail)
-
-pub split_once : (bs cs : List (List ℕ)) (x y : List ℕ) → All HasNoEnd bs → All HasNoEnd cs → HasNoEnd x → HasNoEnd y → ended bs ++ x ≡ ended cs ++ y → (bs ≡ cs) × (x ≡ y)
-split_once [] [] x y p q h k e = (refl, e)
-split_once [] (c ∷ cs) x y p q h k e = absurd (no_feed c (ended cs ++ y) (subst HasNoEnd (e ∙ one_more c cs y) h))
-split_once (b ∷ bs) [] x y p q h k e = absurd (no_feed b (ended bs ++ x) (subst HasNoEnd (sym e ∙ one_more b bs x) k))
-split_once (b ∷ bs) (c ∷ cs) x y p q h k e =
-    let first = cut_once b c (ended bs ++ x) (ended cs ++ y) (All-head HasNoEnd b bs p) (All-head HasNoEnd c cs q) (sym (one_more b bs x) ∙ e ∙ one_more c cs y) in
-    let more = split_once bs cs x y (All-tail HasNoEnd b bs p) (All-tail HasNoEnd c cs q) h k first.1 in
-    let i = first.0 in let j = more.0 in (cc, more.1)
 
 -- a line that is not strange, and whose numbers are small where it stands in a tree
 abbrev pub IsPlainLine : CertLine → Type 0
@@ -91,28 +55,53 @@ plain_pairs v h = (tt, plain_map (λ p. lines.PairRow (row_runs v (pair_row h p)
 plain_tables : (v : Version) (b : Tables) → AllPlain (table_lines v b)
 plain_tables v b = plain_append (pair_lines v b.pairs) (dist_lines v b.dists) (plain_pairs v b.pairs) (tt, plain_map (λ a. lines.DistRow (row_runs v (dist_row b.dists a))) (range_with_len 0 b.dists.actions) (λ a. tt))
 
-plain_tree : (t : TaskShape) (v : Version) (b : Tables) (bound : ℕ) (f : List NodeLine) → InBounds t → HasTables t b → bound ≤ 1000000 → IsClosedAt t b bound f → AllPlain (table_lines v b ++ tree_lines bound f)
-plain_tree t v b bound f inside has le tree = plain_append (table_lines v b) (tree_lines bound f) (plain_tables v b) (tt, plain_nodes f (tree_small t b inside false bound f has.fits le tree))
+-- the lines bring fewer tokens than there are numbers for them
+abbrev HasRoom : List CertLine → Type 0
+HasRoom ls = 2 + brings_in ls ≤ 4294967295
+
+room_behind : (ls more : List CertLine) → HasRoom (ls ++ more) → HasRoom more
+room_behind ls more h = let e = brings_in_append ls more in omega (arith, e, h)
+
+room_before : (ls more : List CertLine) → HasRoom (ls ++ more) → HasRoom ls
+room_before ls more h = let e = brings_in_append ls more in omega (arith, e, h)
+
+tree_room : (bound : ℕ) (f : List NodeLine) → HasRoom (tree_lines bound f) → 2 + brings f ≤ 4294967295
+tree_room bound f h = let e = brings_in_nodes f in omega (arith, e, h)
+
+open_room : (bound : ℕ) (f : List NodeLine) → HasRoom (open_lines bound f) → 2 + brings f ≤ 4294967295
+open_room bound f h = let e = brings_in_nodes f in omega (arith, e, h)
+
+plain_tree : (t : TaskShape) (v : Version) (b : Tables) (bound : ℕ) (f : List NodeLine) → InBounds t → HasTables t b → bound ≤ 1000000 → IsClosedAt t b bound f → HasRoom (table_lines v b ++ tree_lines bound f) → AllPlain (table_lines v b ++ tree_lines bound f)
+plain_tree t v b bound f inside has le tree room =
+    let few = tree_room bound f (room_behind (table_lines v b) (tree_lines bound f) room) in
+    plain_append (table_lines v b) (tree_lines bound f) (plain_tables v b) (tt, plain_nodes f (tree_small t b inside false bound f has.fits le tree few))
 
 plain_plan : (plan : List Occ) → AllPlain (plan_lines plan)
 plain_plan plan = (tt, plain_map item plan (λ o. tt))
 
-plain_sections : (t : TaskShape) (v : Version) (claim : Claim) (c : Parts) → InBounds t → IsClaim claim → Proves t claim c → AllPlain (sections v claim c)
-plain_sections t v (claims.Optimal zero) c inside few good = plain_plan c.plan
-plain_sections t v (claims.Optimal (suc m)) c inside few good =
-    plain_append (plan_lines c.plan) (table_lines v c.tables ++ tree_lines m c.tree) (plain_plan c.plan) (plain_tree t v c.tables m c.tree inside good.1 (omega arith) good.2)
-plain_sections t v (claims.NoneUpTo m) c inside few good = plain_tree t v c.tables m c.tree inside good.0 few good.1
-plain_sections t v claims.Never c inside few good = plain_pairs v c.tables.pairs
-plain_sections t v (claims.Spent refuted nodes) c inside few good =
+plain_sections : (t : TaskShape) (v : Version) (claim : Claim) (c : Parts) → InBounds t → IsClaim claim → Proves t claim c → HasRoom (sections v claim c) → AllPlain (sections v claim c)
+plain_sections t v (claims.Optimal zero) c inside few good room = plain_plan c.plan
+plain_sections t v (claims.Optimal (suc m)) c inside few good room =
+    plain_append (plan_lines c.plan) (table_lines v c.tables ++ tree_lines m c.tree) (plain_plan c.plan)
+    (plain_tree t v c.tables m c.tree inside good.1 (omega arith) good.2 (room_behind (plan_lines c.plan) (table_lines v c.tables ++ tree_lines m c.tree) room))
+plain_sections t v (claims.NoneUpTo m) c inside few good room = plain_tree t v c.tables m c.tree inside good.0 few good.1 room
+plain_sections t v claims.Never c inside few good room = plain_pairs v c.tables.pairs
+plain_sections t v (claims.Spent refuted nodes) c inside few good room =
     let le = few.0 in
+    let trees = room_behind (table_lines v c.tables) (tree_lines refuted c.tree ++ open_lines (refuted + 1) c.partial) room in
+    let first = tree_room refuted c.tree (room_before (tree_lines refuted c.tree) (open_lines (refuted + 1) c.partial) trees) in
+    let second = open_room (refuted + 1) c.partial (room_behind (tree_lines refuted c.tree) (open_lines (refuted + 1) c.partial) trees) in
     plain_append (table_lines v c.tables) (tree_lines refuted c.tree ++ open_lines (refuted + 1) c.partial) (plain_tables v c.tables) (
-    plain_append (tree_lines refuted c.tree) (open_lines (refuted + 1) c.partial) (tt, plain_nodes c.tree (tree_small t c.tables inside false refuted c.tree good.0.fits (omega (arith, le)) good.1))
-    (tt, plain_nodes c.partial (tree_small t c.tables inside true (refuted + 1) c.partial good.0.fits (omega (arith, le)) good.2.tree))
+    plain_append (tree_lines refuted c.tree) (open_lines (refuted + 1) c.partial)
+    (tt, plain_nodes c.tree (tree_small t c.tables inside false refuted c.tree good.0.fits (omega (arith, le)) good.1 first))
+    (tt, plain_nodes c.partial (tree_small t c.tables inside true (refuted + 1) c.partial good.0.fits (omega (arith, le)) good.2.tree second))
     )
 
-pub plain_lines : (t : TaskShape) (v : Version) (claim : Claim) (c : Parts) → InBounds t → c.claim ≡ claim → IsClaim claim → Proves t claim c → AllPlain (cert_lines v t c)
-plain_lines t v claim c inside e few good =
-    (tt, (tt, (tt, plain_append (sections v c.claim c) (lines.End ∷ []) (subst (λ z. AllPlain (sections v z c)) (sym e) (plain_sections t v claim c inside few good)) (tt, tt))))
+pub plain_lines : (t : TaskShape) (v : Version) (claim : Claim) (c : Parts) → InBounds t → c.claim ≡ claim → IsClaim claim → Proves t claim c → HasRoom (cert_lines v t c) → AllPlain (cert_lines v t c)
+plain_lines t v claim c inside e few good room =
+    let within : HasRoom (sections v c.claim c) = room_before (sections v c.claim c) (lines.End ∷ []) (omega (arith, room)) in
+    let plain = plain_sections t v claim c inside few good (subst (λ z. HasRoom (sections v z c)) e within) in
+    (tt, (tt, (tt, plain_append (sections v c.claim c) (lines.End ∷ []) (subst (λ z. AllPlain (sections v z c)) (sym e) plain) (tt, tt))))
 
 -- a plain line is given as it is
 kept_line : (l : CertLine) → IsPlainLine l → capped_line l ≡ l
@@ -245,16 +234,21 @@ claim_of t v claim m ls rest e text h = go h.bodies h.read h.each (sym h.all ∙
     go (b ∷ []) (r ∷ s ∷ read) z k = absurd z.1
     go (b ∷ c ∷ bodies) (r ∷ s ∷ read) z k = let q : s ≡ lines.Claimed claim = (let q' : s ∷ (read ++ unended h.tail) ≡ lines.Claimed claim ∷ rest = cc in cc) in written c (subst (IsReadAs c) q z.1.0)
 
+-- the lines of a text that is not too long bring few tokens
+pub room_of : (text : List ℕ) (ls : List CertLine) → length text ≤ 2 ^ 36 → AreLinesOf text ls → 2 + brings_in ls ≤ 4294967295
+room_of text ls short h = let k = text_bytes text ls h in omega (arith, short, k)
+
 -- a text whose lines are read whole is a certificate
-pub whole_text : (t : TaskShape) (text : List ℕ) (ls : List CertLine) (v : Version) (claim : Claim) (rest : List CertLine) (m : ℕ) → InBounds t → AreLinesOf text ls → ReadsAll t ls (went (v, claim) rest m) → Accepts t text v claim
-whole_text t text ls v claim rest m inside of reads =
+pub whole_text : (t : TaskShape) (text : List ℕ) (ls : List CertLine) (v : Version) (claim : Claim) (rest : List CertLine) (m : ℕ) → InBounds t → length text ≤ 2 ^ 36 → AreLinesOf text ls → ReadsAll t ls (went (v, claim) rest m) → Accepts t text v claim
+whole_text t text ls v claim rest m inside short of reads =
     let made = (lines_back t v claim ls rest m (filled_text text ls of) reads).0 in
     let c = made.0 in
     let is = made.1 in
     let first : ls ≡ lines.First v ∷ lines.Claimed claim ∷ lines.Sizes (length t.atoms) (length t.actions) ∷ (sections v c.claim c ++ lines.End ∷ []) =
     is.same ∙ ap (λ z. lines.First v ∷ lines.Claimed z ∷ lines.Sizes (length t.atoms) (length t.actions) ∷ (sections v c.claim c ++ lines.End ∷ [])) is.claims in
     let few = claim_of t v claim m ls (lines.Sizes (length t.atoms) (length t.actions) ∷ (sections v c.claim c ++ lines.End ∷ [])) first text of in
-    let plain : AllPlain ls = subst AllPlain (sym is.same) (plain_lines t v claim c inside is.claims few is.proves) in
+    let room : HasRoom ls = room_of text ls short of in
+    let plain : AllPlain ls = subst AllPlain (sym is.same) (plain_lines t v claim c inside is.claims few is.proves (subst HasRoom is.same room)) in
     let k = text_of_plain text ls of plain in (
       c,
       record {

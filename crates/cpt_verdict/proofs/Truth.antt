@@ -23,11 +23,11 @@ use Rattle.cpt_soundness.specs.Tree.{IsClosedTree}
 use Rattle.cpt_soundness.specs.Tree.IsClosedTree.{close as shut, narrow as narrowing}
 use Rattle.cpt_soundness.proofs.PlanLemmas.{goal_bounds}
 use Rattle.cpt_soundness.proofs.TreeLemmas.{tree_refutes, branches_close}
-use Rattle.cpt_cert.specs.declared.forms.Claim.{Claim}
-use Rattle.cpt_cert.specs.declared.forms.Claim.TheVariants as claims
-use Rattle.cpt_cert.specs.declared.forms.CertLine.TheVariants as lines
-use Rattle.cpt_cert.specs.Forms.{IsClaim}
-use Rattle.cpt_cert.specs.Text.{Parts}
+use Rattle.cpt_cert_form.specs.declared.forms.Claim.{Claim}
+use Rattle.cpt_cert_form.specs.declared.forms.Claim.TheVariants as claims
+use Rattle.cpt_cert_form.specs.declared.forms.CertLine.TheVariants as lines
+use Rattle.cpt_cert_form.specs.Forms.{IsClaim}
+use Rattle.cpt_cert_form.specs.Text.{Parts}
 use Rattle.cpt_verdict.specs.Trees.{Part, IsPart}
 use Rattle.cpt_verdict.specs.Trees.Part.{node, worked, branches}
 use Rattle.cpt_verdict.specs.Trees.IsPart.{left, whole, step, close, branch, none, child}
@@ -47,7 +47,7 @@ closes t b r ls (step s rule more legal h) = narrowing s rule legal (closes t b 
 closes t b r ls (close s dead) = shut s dead
 closes t b r ls (branch s flaw more live stands h) = branches_close t b s flaw stands (closes t b (branches s (children s flaw)) more h)
 closes t b r ls (none s) = All-nil (λ d. IsClosedTree t b (applied t s d))
-closes t b r ls (child s d ds one more all room h k e) = All-cons (λ d. IsClosedTree t b (applied t s d)) d ds (closes t b (node (applied t s d)) one h) (closes t b (branches s ds) more k)
+closes t b r ls (child s d ds one more all h k e) = All-cons (λ d. IsClosedTree t b (applied t s d)) d ds (closes t b (node (applied t s d)) one h) (closes t b (branches s ds) more k)
 
 admissible : (t : TaskShape) (b : Tables) → InBounds t → HasTables t b → IsAdmissible t b
 admissible t b inside h = record { bounds = inside; pairs = h.pairs; dists = h.dists }

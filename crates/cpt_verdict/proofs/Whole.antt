@@ -13,12 +13,12 @@ use Rattle.cpt_sheet.specs.declared.data.NodeLine.{NodeLine}
 use Rattle.cpt_sheet.specs.declared.data.NodeLine.TheVariants.{Child, Narrow, Close, Branch, OpenNode}
 use Rattle.cpt_calculus.specs.Decisions.{applied}
 use Rattle.cpt_calculus.specs.Root.{root_of}
-use Rattle.cpt_cert.specs.declared.forms.Version.{Version}
-use Rattle.cpt_cert.specs.declared.forms.Claim.{Claim}
-use Rattle.cpt_cert.specs.declared.forms.Claim.TheVariants as claims
-use Rattle.cpt_cert.specs.declared.forms.CertLine.{CertLine}
-use Rattle.cpt_cert.specs.declared.forms.CertLine.TheVariants as lines
-use Rattle.cpt_cert.specs.Text.{Parts, row_runs, pair_row, dist_row, plan_lines, pair_lines, dist_lines, table_lines, tree_lines, open_lines, optimal_sections, sections, cert_lines}
+use Rattle.cpt_cert_form.specs.declared.forms.Version.{Version}
+use Rattle.cpt_cert_form.specs.declared.forms.Claim.{Claim}
+use Rattle.cpt_cert_form.specs.declared.forms.Claim.TheVariants as claims
+use Rattle.cpt_cert_form.specs.declared.forms.CertLine.{CertLine}
+use Rattle.cpt_cert_form.specs.declared.forms.CertLine.TheVariants as lines
+use Rattle.cpt_cert_form.specs.Text.{Parts, row_runs, pair_row, dist_row, plan_lines, pair_lines, dist_lines, table_lines, tree_lines, open_lines, optimal_sections, sections, cert_lines}
 use Rattle.cpt_verdict.specs.declared.faults.Why.TheVariants as whys
 use Rattle.cpt_verdict.specs.Trees.{Part, IsPart}
 use Rattle.cpt_verdict.specs.Trees.Part.{node, worked, branches}
@@ -49,11 +49,11 @@ part_read t b mo r l (close s dead) n m rest k = Reads.close s n rest (went (Clo
 part_read t b mo r l (branch s flaw ls live stands h) n m rest k =
     Reads.branch s n flaw (as_lines ls ++ rest) (went ls rest m) (went (Branch flaw ∷ ls) rest m) live stands (part_read t b mo (branches s _) ls h (n + 1) m rest (omega (arith, k))) refl
 part_read t b mo r l (none s) n m rest k = Reads.none s n rest (went [] rest m) (ap (went [] rest) (omega (arith, k)))
-part_read t b mo r l (child s d ds ls more all room h j e) n m rest k =
+part_read t b mo r l (child s d ds ls more all h j e) n m rest k =
     let long : length all ≡ length ls + length more = ap length e ∙ length-append ls more in
     let split : as_lines all ++ rest ≡ as_lines ls ++ (as_lines more ++ rest) =
     ap (λ z. as_lines z ++ rest) e ∙ ap (λ z. z ++ rest) (map-append (λ x. lines.Node x) ls more) ∙ append_assoc (as_lines ls) (as_lines more) rest in
-    Reads.child s n d d ds (as_lines all ++ rest) ls (as_lines more ++ rest) ((n + 1) + length ls) (went more rest m) (went (Child d ∷ all) rest m) refl room
+    Reads.child s n d d ds (as_lines all ++ rest) ls (as_lines more ++ rest) ((n + 1) + length ls) (went more rest m) (went (Child d ∷ all) rest m) refl
     (subst (λ z. Reads t b mo (node (applied t s d)) (n + 1) z (went ls (as_lines more ++ rest) ((n + 1) + length ls))) (sym split) (part_read t b mo (node (applied t s d)) ls h (n + 1) ((n + 1) + length ls) (as_lines more ++ rest) refl))
     (part_read t b mo (branches s ds) more j ((n + 1) + length ls) m rest (omega (arith, k, long)))
     (ap (λ z. went (Child d ∷ z) rest m) e)

@@ -11,12 +11,12 @@ use Rattle.cpt_sheet.specs.declared.data.NodeLine.{NodeLine}
 use Rattle.cpt_sheet.specs.declared.data.NodeLine.TheVariants.{Child, Narrow, Close, Branch, OpenNode}
 use Rattle.cpt_sheet.specs.Gaps.{FitsTask}
 use Rattle.cpt_calculus.specs.Root.{root_of}
-use Rattle.cpt_cert.specs.declared.forms.Version.{Version}
-use Rattle.cpt_cert.specs.declared.forms.Claim.{Claim}
-use Rattle.cpt_cert.specs.declared.forms.Claim.TheVariants as claims
-use Rattle.cpt_cert.specs.declared.forms.CertLine.{CertLine}
-use Rattle.cpt_cert.specs.Forms.{Spells, spelled}
-use Rattle.cpt_cert.specs.Text.{Parts, cert_lines, cert_text}
+use Rattle.cpt_cert_form.specs.declared.forms.Version.{Version}
+use Rattle.cpt_cert_form.specs.declared.forms.Claim.{Claim}
+use Rattle.cpt_cert_form.specs.declared.forms.Claim.TheVariants as claims
+use Rattle.cpt_cert_form.specs.declared.forms.CertLine.{CertLine}
+use Rattle.cpt_cert_form.specs.Forms.{Spells, spelled}
+use Rattle.cpt_cert_form.specs.Text.{Parts, cert_lines, cert_text}
 use Rattle.cpt_verdict.specs.Trees.{IsTreeOver}
 
 -- the second occurrence starts later than the first, or with it and is of an action that is not before

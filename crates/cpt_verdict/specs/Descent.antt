@@ -13,15 +13,15 @@ use Rattle.cpt_calculus.specs.Rules.{IsLegal, narrowed}
 use Rattle.cpt_calculus.specs.Decisions.{applied}
 use Rattle.cpt_calculus.specs.Flaws.{IsFlaw, children}
 use Rattle.cpt_calculus.specs.Root.{root_of}
-use Rattle.cpt_cert.specs.declared.forms.Version.{Version}
-use Rattle.cpt_cert.specs.declared.forms.Claim.{Claim}
-use Rattle.cpt_cert.specs.declared.forms.Claim.TheVariants as claims
-use Rattle.cpt_cert.specs.declared.forms.CertLine.{CertLine}
-use Rattle.cpt_cert.specs.declared.forms.CertLine.TheVariants as lines
+use Rattle.cpt_cert_form.specs.declared.forms.Version.{Version}
+use Rattle.cpt_cert_form.specs.declared.forms.Claim.{Claim}
+use Rattle.cpt_cert_form.specs.declared.forms.Claim.TheVariants as claims
+use Rattle.cpt_cert_form.specs.declared.forms.CertLine.{CertLine}
+use Rattle.cpt_cert_form.specs.declared.forms.CertLine.TheVariants as lines
 use Rattle.cpt_verdict.specs.declared.faults.Why.{Why}
 use Rattle.cpt_verdict.specs.declared.faults.Why.TheVariants as whys
 use Rattle.cpt_verdict.specs.Accepting.{is_done, is_left}
-use Rattle.cpt_verdict.specs.Trees.{Part, HasRoom}
+use Rattle.cpt_verdict.specs.Trees.{Part}
 use Rattle.cpt_verdict.specs.Trees.Part.{node, worked, branches}
 use Rattle.cpt_verdict.specs.Reading.{Outcome, Then, behind, take_version, take_claim, take_sizes, ReadsPlan, ReadsPairs, ReadsDists, JudgesGoal, take_tree, take_open_tree, take_end}
 use Rattle.cpt_verdict.specs.Reading.Outcome.{went, faulted}
@@ -65,10 +65,10 @@ pub data Reads (t : TaskShape) (b : Tables) (may_open : Bool) : Part → ℕ →
       o ≡ faulted n whys.Grammar → Reads t b may_open (worked s) n ls o
   none : (s : Sheet) (n : ℕ) (ls : List CertLine) (o : Outcome (List NodeLine)) → o ≡ went [] ls n → Reads t b may_open (branches s []) n ls o
   child : (s : Sheet) (n : ℕ) (d e : Decision) (ds : List Decision) (ls : List CertLine) (one : List NodeLine) (rest : List CertLine) (m : ℕ) (x o : Outcome (List NodeLine)) →
-      e ≡ d → HasRoom s → Reads t b may_open (node (applied t s d)) (n + 1) ls (went one rest m) → Reads t b may_open (branches s ds) m rest x →
+      e ≡ d → Reads t b may_open (node (applied t s d)) (n + 1) ls (went one rest m) → Reads t b may_open (branches s ds) m rest x →
       o ≡ behind (λ f. Child d ∷ (one ++ f)) x → Reads t b may_open (branches s (d ∷ ds)) n (lines.Node (Child e) ∷ ls) o
   inside : (s : Sheet) (n : ℕ) (d e : Decision) (ds : List Decision) (ls : List CertLine) (line : ℕ) (why : Why) (o : Outcome (List NodeLine)) →
-      e ≡ d → HasRoom s → Reads t b may_open (node (applied t s d)) (n + 1) ls (faulted line why) → o ≡ faulted line why → Reads t b may_open (branches s (d ∷ ds)) n (lines.Node (Child e) ∷ ls) o
+      e ≡ d → Reads t b may_open (node (applied t s d)) (n + 1) ls (faulted line why) → o ≡ faulted line why → Reads t b may_open (branches s (d ∷ ds)) n (lines.Node (Child e) ∷ ls) o
   other : (s : Sheet) (n : ℕ) (d e : Decision) (ds : List Decision) (ls : List CertLine) (o : Outcome (List NodeLine)) → e ≢ d →
       o ≡ faulted n whys.Child → Reads t b may_open (branches s (d ∷ ds)) n (lines.Node (Child e) ∷ ls) o
   childless : (s : Sheet) (n : ℕ) (d : Decision) (ds : List Decision) (ls : List CertLine) (o : Outcome (List NodeLine)) → begins_child ls ≡ false →

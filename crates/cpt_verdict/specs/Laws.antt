@@ -1,21 +1,22 @@
-use Rattle.std.specs.Prelude.{◌≡◌, ◌↔◌, ◌≤◌, ℕ, List, [], ◌∷◌}
+use Rattle.std.specs.Prelude.{◌≡◌, ◌↔◌, ◌≤◌, ◌*◌, ◌^◌, ℕ, List, [], ◌∷◌, length}
 use Rattle.cpt_task.specs.declared.plan.Occ.{Occ}
 use Rattle.cpt_task.specs.Shape.{TaskShape, InBounds}
 use Rattle.cpt_task.specs.Timeline.{makespan}
 use Rattle.cpt_task.specs.Optimal.{IsOptimal, IsRefuted, HasNoPlan}
 use Rattle.cpt_soundness.specs.Sets.{HasSets}
-use Rattle.cpt_cert.specs.declared.forms.Version.{Version}
-use Rattle.cpt_cert.specs.declared.forms.Claim.{Claim}
-use Rattle.cpt_cert.specs.declared.forms.Claim.TheVariants as claims
-use Rattle.cpt_cert.specs.declared.forms.CertLine.{CertLine}
-use Rattle.cpt_cert.specs.declared.forms.CertLine.TheVariants as lines
-use Rattle.cpt_cert.specs.declared.forms.Run.{Run}
-use Rattle.cpt_cert.specs.Text.{Parts, cert_lines}
+use Rattle.cpt_cert_form.specs.declared.forms.Version.{Version}
+use Rattle.cpt_cert_form.specs.declared.forms.Claim.{Claim}
+use Rattle.cpt_cert_form.specs.declared.forms.Claim.TheVariants as claims
+use Rattle.cpt_cert_form.specs.declared.forms.CertLine.{CertLine}
+use Rattle.cpt_cert_form.specs.declared.forms.CertLine.TheVariants as lines
+use Rattle.cpt_cert_form.specs.declared.forms.Run.{Run}
+use Rattle.cpt_cert_form.specs.Text.{Parts, cert_lines}
 use Rattle.cpt_verdict.specs.Accepting.{IsInOrder, Proves, IsCertificate, Accepts}
 use Rattle.cpt_verdict.specs.Reading.{Outcome}
 use Rattle.cpt_verdict.specs.Reading.Outcome.{went}
 use Rattle.cpt_verdict.specs.Descent.{ReadsAll}
-use Rattle.cpt_verdict.specs.Texts.{AreLinesOf, FirstFault}
+use Rattle.cpt_cert_read.specs.Texts.{AreLinesOf}
+use Rattle.cpt_verdict.specs.Texts.{FirstFault, brings_in}
 use Rattle.cpt_verdict.specs.declared.faults.Why.{Why}
 
 -- what a claim says of a task, where it comes with a plan
@@ -62,24 +63,28 @@ abbrev pub WholeLines : Type 0
 WholeLines =
     (t : TaskShape) (v : Version) (claim : Claim) (ls : List CertLine) → AllFilled ls → ((c : Parts) × IsMadeOf t v claim ls c) ↔ ((m : ℕ) × ReadsAll t ls (went (v, claim) [] m))
 
--- a text whose lines are read whole is a certificate
+-- a text of at most 2^36 bytes whose lines are read whole is a certificate
 abbrev pub WholeTexts : Type 0
 WholeTexts =
-    (t : TaskShape) (text : List ℕ) (ls : List CertLine) (v : Version) (claim : Claim) (m : ℕ) → InBounds t → AreLinesOf text ls → ReadsAll t ls (went (v, claim) [] m) → Accepts t text v claim
+    (t : TaskShape) (text : List ℕ) (ls : List CertLine) (v : Version) (claim : Claim) (m : ℕ) → InBounds t → length text ≤ 2 ^ 36 → AreLinesOf text ls → ReadsAll t ls (went (v, claim) [] m) → Accepts t text v claim
 
--- a certificate's lines are read whole
+-- the lines of a certificate of at most 2^36 bytes are read whole
 abbrev pub CertificatesRead : Type 0
 CertificatesRead =
-    (t : TaskShape) (text : List ℕ) (v : Version) (claim : Claim) → InBounds t → Accepts t text v claim → (ls : List CertLine) × AreLinesOf text ls × ((m : ℕ) × ReadsAll t ls (went (v, claim) [] m))
+    (t : TaskShape) (text : List ℕ) (v : Version) (claim : Claim) → InBounds t → length text ≤ 2 ^ 36 → Accepts t text v claim → (ls : List CertLine) × AreLinesOf text ls × ((m : ℕ) × ReadsAll t ls (went (v, claim) [] m))
 
 -- a text has at most one first fault
 abbrev pub OneFault : Type 0
 OneFault = (t : TaskShape) (text : List ℕ) (line also : ℕ) (why other : Why) → FirstFault t text line why → FirstFault t text also other → (line ≡ also) × (why ≡ other)
 
--- a certificate has no fault
+-- a certificate of at most 2^36 bytes has no fault
 abbrev pub NoFault : Type 0
-NoFault = (t : TaskShape) (text : List ℕ) (v : Version) (claim : Claim) (line : ℕ) (why : Why) → InBounds t → Accepts t text v claim → FirstFault t text line why → ⊥
+NoFault = (t : TaskShape) (text : List ℕ) (v : Version) (claim : Claim) (line : ℕ) (why : Why) → InBounds t → length text ≤ 2 ^ 36 → Accepts t text v claim → FirstFault t text line why → ⊥
 
 -- a text has at most one version and claim
 abbrev pub OneClaim : Type 0
 OneClaim = (t : TaskShape) (text : List ℕ) (v w : Version) (claim also : Claim) → InBounds t → Accepts t text v claim → Accepts t text w also → (v ≡ w) × (claim ≡ also)
+
+-- A text has 18 bytes for each token that its lines bring. So fewer than 2^32 - 3 are brought in a text of 2^36 bytes.
+abbrev pub BringsTakeBytes : Type 0
+BringsTakeBytes = (text : List ℕ) (ls : List CertLine) → AreLinesOf text ls → 18 * brings_in ls ≤ length text

@@ -1,38 +1,23 @@
-use Rattle.std.specs.Prelude.{◌≡◌, ℕ, List, [], ◌∷◌, ◌++◌, All}
-use Rattle.std.specs.List.{flat_map, AllZip}
+use Rattle.std.specs.Prelude.{ℕ, ◌+◌, List, [], ◌∷◌}
 use Rattle.cpt_task.specs.Shape.{TaskShape}
-use Rattle.cpt_cert.specs.declared.forms.CertLine.{CertLine}
-use Rattle.cpt_cert.specs.declared.forms.CertLine.TheVariants as lines
-use Rattle.cpt_cert.specs.Forms.{IsReadAs}
-use Rattle.cpt_cert.specs.Lines.{HasNoEnd}
+use Rattle.cpt_cert_form.specs.declared.forms.CertLine.{CertLine}
+use Rattle.cpt_cert_form.specs.declared.forms.CertLine.TheVariants as lines
+use Rattle.cpt_cert_read.specs.Texts.{AreLinesOf}
 use Rattle.cpt_verdict.specs.declared.faults.Why.{Why}
+use Rattle.cpt_verdict.specs.Trees.{bring_of}
 use Rattle.cpt_verdict.specs.Reading.Outcome.{faulted}
 use Rattle.cpt_verdict.specs.Descent.{ReadsAll}
-
--- lines, each with its line feed
-abbrev pub ended : List (List ℕ) → List ℕ
-ended bodies = flat_map (λ body. body ++ 10 ∷ []) bodies
-
--- the text is these lines, each with its line feed, and what stands behind the last line feed
-pub record IsSplit (text : List ℕ) (bodies : List (List ℕ)) (tail : List ℕ) : Type 0 where
-  pub whole : text ≡ ended bodies ++ tail
-  pub lines : All HasNoEnd bodies
-  pub last : HasNoEnd tail
-
--- bytes behind the last line feed are a line that lacks its line feed, which has no form
-abbrev pub unended : List ℕ → List CertLine
-unended [] = []
-unended (byte ∷ bytes) = lines.Strange ∷ []
-
--- what the lines of a text are read as
-pub record AreLinesOf (text : List ℕ) (ls : List CertLine) : Type 0 where
-  pub bodies : List (List ℕ)
-  pub tail : List ℕ
-  pub read : List CertLine
-  pub split : IsSplit text bodies tail
-  pub each : AllZip IsReadAs bodies read
-  pub all : ls ≡ read ++ unended tail
 
 -- the first fault of a text: the line and the reason
 abbrev pub FirstFault : TaskShape → List ℕ → ℕ → Why → Type 0
 FirstFault t text line why = (ls : List CertLine) × AreLinesOf text ls × ReadsAll t ls (faulted line why)
+
+-- 1 where the line is a child for which a token is brought
+abbrev pub bring_in : CertLine → ℕ
+bring_in (lines.Node l) = bring_of l
+bring_in _ = 0
+
+-- how many of the lines are children for which a token is brought
+abbrev pub brings_in : List CertLine → ℕ
+brings_in [] = 0
+brings_in (l ∷ ls) = bring_in l + brings_in ls

@@ -1,6 +1,6 @@
 //! The laws: their contracts are what they say, and their bodies are empty.
 
-ghost use Rattle.cpt_verdict.specs.Laws.{CertificatesHold, CertificatesRead, NoFault, OneClaim, OneFault, OneOutcome, WholeLines, WholeTexts};
+ghost use Rattle.cpt_verdict.specs.Laws.{BringsTakeBytes, CertificatesHold, CertificatesRead, NoFault, OneClaim, OneFault, OneOutcome, WholeLines, WholeTexts};
 
 /// Whatever text is a certificate of a task, its claim holds: its plan is optimal with the claimed makespan, no valid
 /// plan has a makespan of at most the refuted bound, or there is no valid plan.
@@ -18,12 +18,12 @@ pub fn whole_lines()
     ensures { WholeLines }
 {}
 
-/// A text whose lines are read whole, without a fault, is a certificate of the task.
+/// A text of at most 2^36 bytes whose lines are read whole, without a fault, is a certificate of the task.
 pub fn whole_texts()
     ensures { WholeTexts }
 {}
 
-/// The lines of a certificate are read whole, without a fault.
+/// The lines of a certificate of at most 2^36 bytes are read whole, without a fault.
 pub fn certificates_read()
     ensures { CertificatesRead }
 {}
@@ -33,7 +33,7 @@ pub fn one_fault()
     ensures { OneFault }
 {}
 
-/// A certificate has no fault.
+/// A certificate of at most 2^36 bytes has no fault.
 pub fn no_fault()
     ensures { NoFault }
 {}
@@ -41,4 +41,9 @@ pub fn no_fault()
 /// A text has at most one version and claim.
 pub fn one_claim()
     ensures { OneClaim }
+{}
+
+/// A text has 18 bytes for each token that its lines bring.
+pub fn brings_take_bytes()
+    ensures { BringsTakeBytes }
 {}

@@ -7,6 +7,6 @@ mod laws;
 
 pub use faults::Why;
 pub use laws::{
-    certificates_hold, certificates_read, no_fault, one_claim, one_fault, one_outcome, whole_lines,
-    whole_texts,
+    brings_take_bytes, certificates_hold, certificates_read, no_fault, one_claim, one_fault,
+    one_outcome, whole_lines, whole_texts,
 };

@@ -12,11 +12,11 @@ use Rattle.cpt_sheet.specs.Live.{IsDead, IsLive}
 use Rattle.cpt_calculus.specs.Rules.{IsLegal, narrowed}
 use Rattle.cpt_calculus.specs.Decisions.{applied}
 use Rattle.cpt_calculus.specs.Flaws.{IsFlaw, children}
-use Rattle.cpt_cert.specs.declared.forms.CertLine.{CertLine}
-use Rattle.cpt_cert.specs.declared.forms.CertLine.TheVariants as lines
+use Rattle.cpt_cert_form.specs.declared.forms.CertLine.{CertLine}
+use Rattle.cpt_cert_form.specs.declared.forms.CertLine.TheVariants as lines
 use Rattle.cpt_verdict.specs.declared.faults.Why.{Why}
 use Rattle.cpt_verdict.specs.declared.faults.Why.TheVariants as whys
-use Rattle.cpt_verdict.specs.Trees.{Part, HasRoom}
+use Rattle.cpt_verdict.specs.Trees.{Part}
 use Rattle.cpt_verdict.specs.Trees.Part.{node, worked, branches}
 use Rattle.cpt_verdict.specs.Reading.{Outcome, After, behind}
 use Rattle.cpt_verdict.specs.Reading.Outcome.{went, faulted}
@@ -67,23 +67,23 @@ module _ (t : TaskShape) (b : Tables) (mo : Bool) where
   pub node_works : (s : Sheet) (ps : List Part) (n : ℕ) (ls : List CertLine) (x : Outcome (List NodeLine)) → begins_left mo ls ≡ false → ReadsParts t b mo (worked s ∷ ps) n ls x → ReadsParts t b mo (node s ∷ ps) n ls x
   node_works s ps n ls x e (z, reads, after) = (z, whole s n ls z e reads, after)
 
-  pub child_moves : (s : Sheet) (d : Decision) (ds : List Decision) (ps : List Part) (n : ℕ) (ls : List CertLine) (x : Outcome (List NodeLine)) → HasRoom s →
+  pub child_moves : (s : Sheet) (d : Decision) (ds : List Decision) (ps : List Part) (n : ℕ) (ls : List CertLine) (x : Outcome (List NodeLine)) →
       ReadsParts t b mo (node (applied t s d) ∷ branches s ds ∷ ps) (n + 1) ls x → ReadsParts t b mo (branches s (d ∷ ds) ∷ ps) n (lines.Node (Child d) ∷ ls) (behind (λ f. Child d ∷ f) x)
-  child_moves s d ds ps n ls x room (z, reads, after) = go z reads after
+  child_moves s d ds ps n ls x (z, reads, after) = go z reads after
     where
       last : (one : List NodeLine) (m : ℕ) (rest : List CertLine) (y z : Outcome (List NodeLine)) → Reads t b mo (node (applied t s d)) (n + 1) ls (went one rest m) → Reads t b mo (branches s ds) m rest z → After (Later ps) z y →
           x ≡ behind (λ g. one ++ g) y → ReadsParts t b mo (branches s (d ∷ ds) ∷ ps) n (lines.Node (Child d) ∷ ls) (behind (λ f. Child d ∷ f) x)
       last one m rest y (went f r k) first second (w, more, e) q = (
         went (Child d ∷ (one ++ f)) r k,
-        child s n d d ds ls one rest m (went f r k) (went (Child d ∷ (one ++ f)) r k) refl room first second refl,
+        child s n d d ds ls one rest m (went f r k) (went (Child d ∷ (one ++ f)) r k) refl first second refl,
         (w, more, ap (behind (λ g. Child d ∷ g)) (q ∙ ap (behind (λ g. one ++ g)) e) ∙ behind_both one f (Child d) w),
       )
       last one m rest y (faulted line why) first second e q =
-          (faulted line why, child s n d d ds ls one rest m (faulted line why) (faulted line why) refl room first second refl, ap (behind (λ g. Child d ∷ g)) (q ∙ ap (behind (λ g. one ++ g)) e))
+          (faulted line why, child s n d d ds ls one rest m (faulted line why) (faulted line why) refl first second refl, ap (behind (λ g. Child d ∷ g)) (q ∙ ap (behind (λ g. one ++ g)) e))
 
       go : (z : Outcome (List NodeLine)) → Reads t b mo (node (applied t s d)) (n + 1) ls z → After (Later (branches s ds ∷ ps)) z x → ReadsParts t b mo (branches s (d ∷ ds) ∷ ps) n (lines.Node (Child d) ∷ ls) (behind (λ f. Child d ∷ f) x)
       go (went one rest m) first (y, (z, second, after), e) = last one m rest y z first second after e
-      go (faulted line why) first e = (faulted line why, inside s n d d ds ls line why (faulted line why) refl room first refl, ap (behind (λ g. Child d ∷ g)) e)
+      go (faulted line why) first e = (faulted line why, inside s n d d ds ls line why (faulted line why) refl first refl, ap (behind (λ g. Child d ∷ g)) e)
 
   -- no children are left
   skip_none : (s : Sheet) (ps : List Part) (n : ℕ) (ls : List CertLine) (x : Outcome (List NodeLine)) → ReadsParts t b mo ps n ls x → ReadsParts t b mo (branches s [] ∷ ps) n ls x
@@ -93,9 +93,9 @@ module _ (t : TaskShape) (b : Tables) (mo : Bool) where
       nothing (went f rest m) = refl
       nothing (faulted line why) = refl
 
-  pub last_child_moves : (s : Sheet) (d : Decision) (ps : List Part) (n : ℕ) (ls : List CertLine) (x : Outcome (List NodeLine)) → HasRoom s →
+  pub last_child_moves : (s : Sheet) (d : Decision) (ps : List Part) (n : ℕ) (ls : List CertLine) (x : Outcome (List NodeLine)) →
       ReadsParts t b mo (node (applied t s d) ∷ ps) (n + 1) ls x → ReadsParts t b mo (branches s (d ∷ []) ∷ ps) n (lines.Node (Child d) ∷ ls) (behind (λ f. Child d ∷ f) x)
-  last_child_moves s d ps n ls x room (z, reads, after) = child_moves s d [] ps n ls x room (z, reads, go z after)
+  last_child_moves s d ps n ls x (z, reads, after) = child_moves s d [] ps n ls x (z, reads, go z after)
     where
       go : (z : Outcome (List NodeLine)) → After (Later ps) z x → After (Later (branches s [] ∷ ps)) z x
       go (went f rest m) (y, more, e) = (y, skip_none s ps m rest y more, e)

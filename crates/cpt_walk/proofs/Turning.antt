@@ -21,23 +21,27 @@ use Rattle.cpt_task.specs.declared.span.Span.TheVariants.{At, Never}
 use Rattle.cpt_tables.specs.Spans.{◌≤ˢ◌, ◌<ˢ◌}
 use Rattle.cpt_sheet.specs.declared.data.Need.{Need}
 use Rattle.cpt_sheet.specs.Live.{IsDead, IsLive, IsLiveToken}
-use Rattle.cpt_calculus.specs.Rules.{IsLegal, narrowed}
+use Rattle.cpt_calculus.specs.Rules.{IsLegal, narrowed, change_of}
 use Rattle.cpt_calculus.specs.Decisions.{Fits, applied}
 use Rattle.cpt_calculus.specs.Flaws.{IsFlaw, children, choice}
 use Rattle.cpt_soundness.proofs.FitLemmas.{children_fit}
-use Rattle.cpt_cert.specs.declared.forms.CertLine.{CertLine}
-use Rattle.cpt_cert.specs.declared.forms.CertLine.TheVariants as lines
+use Rattle.cpt_cert_form.specs.declared.forms.CertLine.{CertLine}
+use Rattle.cpt_cert_form.specs.declared.forms.CertLine.TheVariants as lines
 use Rattle.cpt_verdict.specs.declared.faults.Why.TheVariants as whys
-use Rattle.cpt_verdict.specs.Trees.{Part, HasRoom}
+use Rattle.cpt_verdict.specs.Trees.{Part, bring_of}
 use Rattle.cpt_verdict.specs.Trees.Part.{node, worked, branches}
 use Rattle.cpt_verdict.specs.Reading.{behind}
 use Rattle.cpt_verdict.specs.Reading.Outcome.{faulted}
 use Rattle.cpt_verdict.specs.Descent.{begins_left, begins_child}
+use Rattle.cpt_verdict.proofs.Brings.{count_narrowed, count_applied}
 use Rattle.cpt_walk.specs.declared.walk.Frame.{Frame}
+use Rattle.cpt_walk.specs.declared.walk.Place.{Place}
+use Rattle.cpt_walk.specs.declared.walk.Place.TheVariants.{Node, Worked, Behind}
 use Rattle.cpt_walk.specs.declared.walk.Past.{Past}
+use Rattle.cpt_walk.specs.declared.walk.Walk.{Walk}
 use Rattle.cpt_walk.specs.declared.walk.Turn.{Turn}
 use Rattle.cpt_walk.specs.declared.walk.Turn.TheVariants.{On, Fault}
-use Rattle.cpt_walk.specs.Walks.{ReadsParts, still, part_of, stacked, parts_left, IsFrame, Turns, GoesDown, at_work, at_node, at_end}
+use Rattle.cpt_walk.specs.Walks.{ReadsParts, still, part_of, stacked, parts_left, IsFrame, IsFewIn, IsFewAt, AreFew, Turns, GoesDown, at_work, at_node, at_end}
 use Rattle.cpt_walk.proofs.Moves.{legal_moves, branch_moves, close_moves, open_moves, node_works, child_moves, last_child_moves, illegal_fails, alive_fails, flawless_fails, strange_fails, other_fails, childless_fails}
 
 pub stack_push : (fs : List Frame) (f : Frame) (ps : List Part) → stacked (fs ++ f ∷ []) ps ≡ part_of f ∷ stacked fs ps
@@ -77,6 +81,26 @@ live_not_dead s live (z, there, inl shut) = absurd (open_not_shut z.span.lo z.sp
     open_not_shut Never hi a b = a
 live_not_dead s live (z, there, inr (n, among, e)) = All-contains (λ (m : Need). m.cands ≢ []) z.lists n (All-contains IsLiveToken s.tokens z live there).1 among e
 
+more_frames : (j k : ℕ) → j ≤ k → (fs : List Frame) → All (IsFewIn j) fs → All (IsFewIn k) fs
+more_frames j k le fs h i d lt = let few = h i d lt in omega (arith, few, le)
+
+more_place : (j k : ℕ) → j ≤ k → (p : Place) → IsFewAt j p → IsFewAt k p
+more_place j k le (Node s) h = omega (arith, h, le)
+more_place j k le (Worked s) h = omega (arith, h, le)
+more_place j k le Behind h = tt
+
+-- where more tokens may be there
+pub more_few : (j k : ℕ) (w : Walk) → j ≤ k → AreFew j w → AreFew k w
+more_few j k w le h = record { frames = more_frames j k le w.past.frames.items h.frames; place = more_place j k le w.place h.place }
+
+-- what holds of all branches holds of the last one and of those before it
+pub but_last : (P : Frame → Type 0) (fs gs : List Frame) (f : Frame) → fs ≡ gs ++ f ∷ [] → All P fs → All P gs × P f
+but_last P fs gs f e h = let k = subst (All P) e h in (All-append_left gs (f ∷ []) k, All-contains P (gs ++ f ∷ []) f k (Contains-push gs f))
+  where
+    All-append_left : (xs ys : List Frame) → All P (xs ++ ys) → All P xs
+    All-append_left [] ys h = All-nil P
+    All-append_left (x ∷ xs) ys h = All-cons P x xs (All-head P x (xs ++ ys) h) (All-append_left xs ys (All-tail P x (xs ++ ys) h))
+
 module _ (t : TaskShape) (b : Tables) where
   pub legal_turn : (p : Past) (s u : Sheet) (rule : Step) → All (IsFrame t) p.frames.items → IsLegal t b s rule → u ≡ narrowed s rule → IsFormed t u → Turns t b (at_work p s) (Narrow rule) (On (at_work p u))
   legal_turn p s u rule frames legal e formed = record {
@@ -84,6 +108,10 @@ module _ (t : TaskShape) (b : Tables) where
     may_open = refl;
     done = omega arith;
     left = or_false p.left;
+    few = λ k h. record {
+      frames = more_frames k (k + 0) (omega arith) p.frames.items h.frames;
+      place = (let same : length u.tokens ≡ length s.tokens = ap (λ (z : Sheet). length z.tokens) e ∙ count_narrowed s (change_of s rule) in let few : length s.tokens ≤ k + 2 = h.place in omega (arith, same, few));
+    };
     reads = λ n ls x h. legal_moves t b p.may_open s rule (stacked p.frames.items []) n ls x legal (subst (λ z. ReadsParts t b p.may_open (worked z ∷ stacked p.frames.items []) (n + 1) ls x) e h);
   }
 
@@ -100,6 +128,7 @@ module _ (t : TaskShape) (b : Tables) where
     may_open = refl;
     done = refl;
     left = or_false p.left;
+    few = λ k h. record { frames = more_frames k (k + 0) (omega arith) p.frames.items h.frames; place = tt };
     reads = λ n ls x h. close_moves t b p.may_open s (stacked p.frames.items []) n ls x dead h;
   }
 
@@ -132,6 +161,12 @@ module _ (t : TaskShape) (b : Tables) where
     may_open = may;
     done = done;
     left = left ∙ or_false p.left;
+    few = λ k h. record {
+      frames = subst (All (IsFewIn (k + 0))) (sym e) (
+          All-push (IsFewIn (k + 0)) p.frames.items (first_frame s flaw) (more_frames k (k + 0) (omega arith) p.frames.items h.frames) (let few : length s.tokens ≤ k + 2 = h.place in omega (arith, few))
+          );
+      place = tt;
+    };
     reads = λ n ls x h. branch_moves t b p.may_open s flaw (stacked p.frames.items []) n ls x live stands (
         subst (λ z. ReadsParts t b p.may_open z (n + 1) ls x) (ap (λ z. stacked z []) e ∙ stack_push p.frames.items (first_frame s flaw) []) h
         );
@@ -156,6 +191,7 @@ module _ (t : TaskShape) (b : Tables) where
     may_open = h.may_open;
     done = h.done;
     left = h.left;
+    few = λ k g. h.few k (record { frames = g.frames; place = g.place });
     reads = λ n ls x k. node_works t b p.may_open s (stacked p.frames.items []) n (lines.Node line ∷ ls) (behind (λ f. line ∷ f) x) (e ls) (h.reads n ls x k);
   }
   node_turn p s line (Fault why) e h = λ n ls. node_works t b p.may_open s (stacked p.frames.items []) n (lines.Node line ∷ ls) (faulted n why) (e ls) (h n ls)
@@ -170,6 +206,7 @@ module _ (t : TaskShape) (b : Tables) where
     may_open = refl;
     done = omega arith;
     left = or_true p.left;
+    few = λ k h. record { frames = more_frames k (k + 0) (omega arith) p.frames.items h.frames; place = tt };
     reads = λ n ls x h. open_moves t b p.may_open s (stacked p.frames.items []) n ls x may h;
   }
 
@@ -181,11 +218,7 @@ module _ (t : TaskShape) (b : Tables) where
   unstack p fs f ds e k = ap (λ z. stacked z []) e ∙ stack_push fs f [] ∙ ap (λ z. branches f.sheet z ∷ stacked fs []) k
 
   pub last_frame : (p : Past) (fs : List Frame) (f : Frame) → IsLast p fs f → All (IsFrame t) p.frames.items → All (IsFrame t) fs × IsFrame t f
-  last_frame p fs f e h = let k = subst (All (IsFrame t)) e h in (All-append_left fs (f ∷ []) k, All-contains (IsFrame t) (fs ++ f ∷ []) f k (Contains-push fs f))
-    where
-      All-append_left : (xs ys : List Frame) → All (IsFrame t) (xs ++ ys) → All (IsFrame t) xs
-      All-append_left [] ys h = All-nil (IsFrame t)
-      All-append_left (x ∷ xs) ys h = All-cons (IsFrame t) x xs (All-head (IsFrame t) x (xs ++ ys) h) (All-append_left xs ys (All-tail (IsFrame t) x (xs ++ ys) h))
+  last_frame p fs f e h = but_last (IsFrame t) p.frames.items fs f e h
 
   pub other_turn : (p : Past) (fs : List Frame) (f : Frame) (d e : Decision) (ds : List Decision) → IsLast p fs f → still f ≡ d ∷ ds → e ≢ d → Turns t b (at_end p) (Child e) (Fault whys.Child)
   other_turn p fs f d e ds is k ne n ls =
@@ -202,10 +235,14 @@ module _ (t : TaskShape) (b : Tables) where
       go (Branch flaw) h = refl
       go OpenNode h = refl
 
+  -- the sheet after a decision has a token more where it brings one
+  child_few : (n : ℕ) (f : Frame) (u : Sheet) (d : Decision) → u ≡ applied t f.sheet d → IsFewIn n f → length u.tokens ≤ n + bring_of (Child d) + 2
+  child_few n f u d e few = let same : length u.tokens ≡ length f.sheet.tokens + bring_of (Child d) = ap (λ (z : Sheet). length z.tokens) e ∙ count_applied t f.sheet d in omega (arith, same, few)
+
   pub more_turn : (p q : Past) (fs : List Frame) (f : Frame) (d : Decision) (u : Sheet) → IsLast p fs f → All (IsFrame t) p.frames.items → still f ≡ d ∷ drop (f.met + 1) f.children → drop (f.met + 1) f.children ≢ [] →
-      HasRoom f.sheet → u ≡ applied t f.sheet d → IsFormed t u → q.may_open ≡ p.may_open → q.done ≡ p.done → q.left ≡ p.left →
+      u ≡ applied t f.sheet d → IsFormed t u → q.may_open ≡ p.may_open → q.done ≡ p.done → q.left ≡ p.left →
       q.frames.items ≡ fs ++ record { sheet = f.sheet; children = f.children; met = f.met + 1 } ∷ [] → Turns t b (at_end p) (Child d) (On (at_node q u))
-  more_turn p q fs f d u is frames k some room e formed may done left back =
+  more_turn p q fs f d u is frames k some e formed may done left back =
       let g : Frame = record { sheet = f.sheet; children = f.children; met = f.met + 1 } in
       let ds = drop (f.met + 1) f.children in
       let both = last_frame p fs f is frames in
@@ -218,8 +255,17 @@ module _ (t : TaskShape) (b : Tables) where
         may_open = may;
         done = done ∙ omega arith;
         left = left ∙ or_false p.left;
+        few = λ n h. (
+            let few = but_last (IsFewIn n) p.frames.items fs f is h.frames in
+            record {
+              frames = subst (All (IsFewIn (n + bring_of (Child d)))) (sym back) (
+                  All-push (IsFewIn (n + bring_of (Child d))) fs g (more_frames n (n + bring_of (Child d)) (omega arith) fs few.0) (let below = few.1 in omega (arith, below))
+                  );
+              place = child_few n f u d e few.1;
+            }
+            );
         reads = λ n ls x h. subst (λ z. ReadsParts t b p.may_open z n (lines.Node (Child d) ∷ ls) (behind (λ w. Child d ∷ w) x)) (sym (unstack p fs f (d ∷ ds) is k)) (
-            child_moves t b p.may_open f.sheet d ds (stacked fs []) n ls x room (
+            child_moves t b p.may_open f.sheet d ds (stacked fs []) n ls x (
             subst (λ z. ReadsParts t b p.may_open (node z ∷ branches f.sheet ds ∷ stacked fs []) (n + 1) ls x) e
             (subst (λ z. ReadsParts t b p.may_open (node u ∷ z) (n + 1) ls x) (ap (λ z. stacked z []) back ∙ stack_push fs g []) h)
             )
@@ -227,16 +273,20 @@ module _ (t : TaskShape) (b : Tables) where
       }
 
   pub last_turn : (p q : Past) (fs : List Frame) (f : Frame) (d : Decision) (u : Sheet) → IsLast p fs f → All (IsFrame t) p.frames.items → still f ≡ d ∷ [] →
-      HasRoom f.sheet → u ≡ applied t f.sheet d → IsFormed t u → q.may_open ≡ p.may_open → q.done ≡ p.done → q.left ≡ p.left → q.frames.items ≡ fs → Turns t b (at_end p) (Child d) (On (at_node q u))
-  last_turn p q fs f d u is frames k room e formed may done left back =
+      u ≡ applied t f.sheet d → IsFormed t u → q.may_open ≡ p.may_open → q.done ≡ p.done → q.left ≡ p.left → q.frames.items ≡ fs → Turns t b (at_end p) (Child d) (On (at_node q u))
+  last_turn p q fs f d u is frames k e formed may done left back =
       let both = last_frame p fs f is frames in
       record {
         walk = record { frames = subst (All (IsFrame t)) (sym back) both.0; place = formed };
         may_open = may;
         done = done ∙ omega arith;
         left = left ∙ or_false p.left;
+        few = λ n h. (
+            let few = but_last (IsFewIn n) p.frames.items fs f is h.frames in
+            record { frames = subst (All (IsFewIn (n + bring_of (Child d)))) (sym back) (more_frames n (n + bring_of (Child d)) (omega arith) fs few.0); place = child_few n f u d e few.1 }
+            );
         reads = λ n ls x h. subst (λ z. ReadsParts t b p.may_open z n (lines.Node (Child d) ∷ ls) (behind (λ w. Child d ∷ w) x)) (sym (unstack p fs f (d ∷ []) is k)) (
-            last_child_moves t b p.may_open f.sheet d (stacked fs []) n ls x room (
+            last_child_moves t b p.may_open f.sheet d (stacked fs []) n ls x (
             subst (λ z. ReadsParts t b p.may_open (node z ∷ stacked fs []) (n + 1) ls x) e (subst (λ z. ReadsParts t b p.may_open (node u ∷ stacked z []) (n + 1) ls x) back h)
             )
             );
@@ -267,18 +317,18 @@ module _ (t : TaskShape) (b : Tables) where
 
   -- a list that is all but its last item, which is taken
   pub down_more : (p q : Past) (f : Frame) (d : Decision) (u : Sheet) → All (IsFrame t) p.frames.items → IsFrame t f → still f ≡ d ∷ drop (f.met + 1) f.children → f.met + 1 < length f.children →
-      HasRoom f.sheet → u ≡ applied t f.sheet d → IsFormed t u → q.may_open ≡ p.may_open → q.done ≡ p.done → q.left ≡ p.left →
+      u ≡ applied t f.sheet d → IsFormed t u → q.may_open ≡ p.may_open → q.done ≡ p.done → q.left ≡ p.left →
       q.frames.items ≡ p.frames.items ++ record { sheet = f.sheet; children = f.children; met = f.met + 1 } ∷ [] → GoesDown t b p f d (at_node q u)
-  down_more p q f d u frames frame k lt room e formed may done left back r may_r done_r left_r is =
+  down_more p q f d u frames frame k lt e formed may done left back r may_r done_r left_r is =
       more_turn r q p.frames.items f d u is (subst (All (IsFrame t)) (sym is) (All-push (IsFrame t) p.frames.items f frames frame)) k
       (λ z. let m : length (drop (f.met + 1) f.children) ≡ 0 = ap length z in let l = length-drop (f.met + 1) f.children in omega (arith, m, l, lt))
-      room e formed (may ∙ sym may_r) (done ∙ sym done_r) (left ∙ sym left_r) back
+      e formed (may ∙ sym may_r) (done ∙ sym done_r) (left ∙ sym left_r) back
 
   pub down_last : (p : Past) (f : Frame) (d : Decision) (u : Sheet) → All (IsFrame t) p.frames.items → IsFrame t f → still f ≡ d ∷ drop (f.met + 1) f.children → length f.children ≤ f.met + 1 →
-      HasRoom f.sheet → u ≡ applied t f.sheet d → IsFormed t u → GoesDown t b p f d (at_node p u)
-  down_last p f d u frames frame k le room e formed r may_r done_r left_r is =
+      u ≡ applied t f.sheet d → IsFormed t u → GoesDown t b p f d (at_node p u)
+  down_last p f d u frames frame k le e formed r may_r done_r left_r is =
       last_turn r p p.frames.items f d u is (subst (All (IsFrame t)) (sym is) (All-push (IsFrame t) p.frames.items f frames frame)) (k ∙ ap (λ z. d ∷ z) (drop_all (f.met + 1) f.children le))
-      room e formed (sym may_r) (sym done_r) (sym left_r) refl
+      e formed (sym may_r) (sym done_r) (sym left_r) refl
 
   pub alive : (p : Past) (s : Sheet) → IsLive s → Turns t b (at_work p s) Close (Fault whys.Close)
   alive p s live = alive_turn p s (live_not_dead s live)

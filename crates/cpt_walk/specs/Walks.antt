@@ -1,4 +1,4 @@
-use Rattle.std.specs.Prelude.{◌≡◌, ◌≢◌, ℕ, ◌+◌, ◌||◌, Bool, if◌then◌else◌, List, [], ◌∷◌, ◌++◌, drop, All}
+use Rattle.std.specs.Prelude.{◌≡◌, ◌≢◌, ℕ, ◌+◌, ◌≤◌, ◌||◌, Bool, if◌then◌else◌, List, [], ◌∷◌, ◌++◌, length, drop, All}
 use Rattle.cpt_task.specs.Shape.{TaskShape}
 use Rattle.cpt_tables.specs.declared.tables.Tables.{Tables}
 use Rattle.cpt_sheet.specs.declared.data.Sheet.{Sheet}
@@ -7,11 +7,11 @@ use Rattle.cpt_sheet.specs.declared.data.NodeLine.{NodeLine}
 use Rattle.cpt_sheet.specs.declared.data.NodeLine.TheVariants.{Child}
 use Rattle.cpt_sheet.specs.Formed.{IsFormed}
 use Rattle.cpt_calculus.specs.Decisions.{Fits}
-use Rattle.cpt_cert.specs.declared.forms.CertLine.{CertLine}
-use Rattle.cpt_cert.specs.declared.forms.CertLine.TheVariants as lines
+use Rattle.cpt_cert_form.specs.declared.forms.CertLine.{CertLine}
+use Rattle.cpt_cert_form.specs.declared.forms.CertLine.TheVariants as lines
 use Rattle.cpt_verdict.specs.declared.faults.Why.{Why}
 use Rattle.cpt_verdict.specs.Accepting.{is_done, is_left}
-use Rattle.cpt_verdict.specs.Trees.{Part}
+use Rattle.cpt_verdict.specs.Trees.{Part, bring_of}
 use Rattle.cpt_verdict.specs.Trees.Part.{node, worked, branches}
 use Rattle.cpt_verdict.specs.Reading.{Outcome, After, behind}
 use Rattle.cpt_verdict.specs.Reading.Outcome.{went, faulted}
@@ -67,12 +67,27 @@ pub record IsWalk (t : TaskShape) (w : Walk) : Type 0 where
   pub frames : All (IsFrame t) w.past.frames.items
   pub place : IsPlaceFormed t w.place
 
+-- a branch whose sheet has at most k tokens more than the two of each root
+abbrev pub IsFewIn : ℕ → Frame → Type 0
+IsFewIn k f = length f.sheet.tokens ≤ k + 2
+
+abbrev pub IsFewAt : ℕ → Place → Type 0
+IsFewAt k (Node s) = length s.tokens ≤ k + 2
+IsFewAt k (Worked s) = length s.tokens ≤ k + 2
+IsFewAt k Behind = Unit {0}
+
+-- each sheet of the walk has at most k tokens more than the two of each root
+pub record AreFew (k : ℕ) (w : Walk) : Type 0 where
+  pub frames : All (IsFewIn k) w.past.frames.items
+  pub place : IsFewAt k w.place
+
 -- a line led from a walk to another: with the lines read behind it, the line and these are read before it
 pub record Leads (t : TaskShape) (b : Tables) (w : Walk) (line : NodeLine) (v : Walk) : Type 0 where
   pub walk : IsWalk t v
   pub may_open : v.past.may_open ≡ w.past.may_open
   pub done : v.past.done ≡ w.past.done + (if is_done line then 1 else 0)
   pub left : v.past.left ≡ (w.past.left || is_left line)
+  pub few : (k : ℕ) → AreFew k w → AreFew (k + bring_of line) v
   pub reads : (n : ℕ) (ls : List CertLine) (x : Outcome (List NodeLine)) → ReadsParts t b w.past.may_open (parts_left v) (n + 1) ls x →
       ReadsParts t b w.past.may_open (parts_left w) n (lines.Node line ∷ ls) (behind (λ f. line ∷ f) x)
 

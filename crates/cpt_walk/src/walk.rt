@@ -1,6 +1,6 @@
 //! A tree that is read line by line: the branches on the way to the node at hand, never by recursion.
 
-ghost use Rattle.std.specs.Prelude.{◌≡◌, ◌≢◌, ◌<◌, ◌+◌, ◌-◌, ◌^◌, false, [], ◌∷◌, ◌++◌, drop, All, IfOk, MatchBool, MatchOption};
+ghost use Rattle.std.specs.Prelude.{◌≡◌, ◌≢◌, ℕ, ◌<◌, ◌≤◌, ◌+◌, ◌-◌, ◌^◌, false, [], ◌∷◌, ◌++◌, length, drop, All, IfOk, MatchBool, MatchOption};
 ghost use Rattle.cpt_task.specs.Shape.{TaskShape};
 ghost use Rattle.cpt_sheet.specs.Formed.{IsFormed};
 ghost use Rattle.cpt_sheet.specs.Live.{IsLive};
@@ -8,11 +8,10 @@ ghost use Rattle.cpt_sheet.specs.Gaps.{FitsTask};
 ghost use Rattle.cpt_calculus.specs.Rules.{IsLegal, narrowed};
 ghost use Rattle.cpt_calculus.specs.Decisions.{Fits, applied};
 ghost use Rattle.cpt_calculus.specs.Flaws.{IsFlaw, children};
-ghost use Rattle.cpt_verdict.specs.Trees.{HasRoom};
 ghost use Rattle.cpt_verdict.specs.Trees.Part.{node};
 ghost use Rattle.cpt_verdict.specs.Descent.{begins_left};
-ghost use Rattle.cpt_cert.specs.declared.forms.CertLine.TheVariants as cert;
-ghost use Rattle.cpt_walk.specs.Walks.{still, parts_left, at_work, at_node, at_end, IsFrame, IsWalk, IsUnread, GoesDown, Turns};
+ghost use Rattle.cpt_cert_form.specs.declared.forms.CertLine.TheVariants as cert;
+ghost use Rattle.cpt_walk.specs.Walks.{still, parts_left, at_work, at_node, at_end, IsFrame, IsFewIn, AreFew, IsWalk, IsUnread, GoesDown, Turns};
 
 use cpt_calculus::{
     Decision, Flaw, NodeLine, Sheet, Step, apply, copy_sheet, flaw_children, is_dead, is_flaw,
@@ -73,6 +72,7 @@ pub enum Turn {
 pub fn begin_tree(alloc: Global, sheet: Sheet, may_open: bool) -> Walk
     ensures parts { parts_left result ≡ node sheet ∷ [] }
     ensures walk { (t : TaskShape) → IsFormed t sheet → IsWalk t result }
+    ensures few { (k : ℕ) → length sheet.tokens ≤ k + 2 → AreFew k result }
     ensures place { result.place ≡ Place.Node sheet }
     ensures past { (result.past.frames.items ≡ []) × (result.past.may_open ≡ may_open) × (result.past.done ≡ 0) × (result.past.left ≡ false) }
 {
@@ -140,15 +140,13 @@ fn open_branch(
     }))
 }
 
-/// The sheet after a decision that fits. A sheet with as many tokens as 32 bits can number counts as want of memory.
+/// The sheet after a decision that fits.
 fn decided(task: &Task, sheet: Sheet, decision: &Decision) -> Result<Sheet, Memory>
     requires fits { Fits sheet decision.now }
     requires formed { IsFormed task.now sheet }
-    ensures { IfOk result (λ s. HasRoom sheet × (s ≡ applied task.now sheet decision.now) × IsFormed task.now s) }
+    requires few { length sheet.tokens < 2 ^ 32 - 1 }
+    ensures { IfOk result (λ s. (s ≡ applied task.now sheet decision.now) × IsFormed task.now s) }
 {
-    if sheet.tokens.as_slice().len() >= u32::MAX as usize {
-        return Err(Memory);
-    }
     let mut sheet = sheet;
     apply(task, &mut sheet, decision)?;
     Ok(sheet)
@@ -171,8 +169,9 @@ fn descend(
 ) -> Result<(Vec<Frame>, Sheet), Memory>
     requires fits { Fits frame.sheet child.now }
     requires formed { IsFormed task.now frame.sheet }
+    requires few { length frame.sheet.tokens < 2 ^ 32 - 1 }
     requires more { frame.met < 2 ^ 64 - 1 }
-    ensures { IfOk result (λ r. HasRoom frame.sheet × (r.1 ≡ applied task.now frame.sheet child.now) × IsFormed task.now r.1 × (r.0.items ≡ frames.items ++ record { sheet = frame.sheet; children = frame.children; met = frame.met + 1 } ∷ [])) }
+    ensures { IfOk result (λ r. (r.1 ≡ applied task.now frame.sheet child.now) × IsFormed task.now r.1 × (r.0.items ≡ frames.items ++ record { sheet = frame.sheet; children = frame.children; met = frame.met + 1 } ∷ [])) }
 {
     let copy = copy_sheet(alloc, &frame.sheet)?;
     let sheet = decided(task, copy, child)?;
@@ -300,7 +299,8 @@ fn step_down(
 ) -> Result<Walk, Memory>
     requires frames { All (IsFrame task.now) past.frames.items }
     requires frame { IsFrame task.now frame }
-    requires few { frame.met < 2 ^ 64 - 1 }
+    requires few { IsFewIn 4294967292 frame }
+    requires more { frame.met < 2 ^ 64 - 1 }
     requires next { still frame ≡ child.now ∷ drop (frame.met + 1) frame.children }
     requires fits { Fits frame.sheet child.now }
     ensures { IfOk result (GoesDown task.now tables.now past frame child.now) }
@@ -347,6 +347,7 @@ fn at_child(
     child: &Decision,
 ) -> Result<Turn, Memory>
     requires frames { All (IsFrame task.now) past.frames.items }
+    requires few { All (IsFewIn 4294967292) past.frames.items }
     requires some { past.frames.items ≢ [] }
     ensures { IfOk result (Turns task.now tables.now (at_end past) (NodeLine.Child child.now)) }
 {
@@ -373,6 +374,7 @@ fn at_behind(
     line: &NodeLine,
 ) -> Result<Turn, Memory>
     requires frames { All (IsFrame task.now) past.frames.items }
+    requires few { All (IsFewIn 4294967292) past.frames.items }
     requires some { past.frames.items ≢ [] }
     ensures { IfOk result (Turns task.now tables.now (at_end past) line.now) }
 {
@@ -429,6 +431,7 @@ pub fn take_node(
 ) -> Result<Turn, Memory>
     requires tables { FitsTask task.now tables.now }
     requires walk { IsWalk task.now walk }
+    requires few { AreFew 4294967292 walk }
     requires unread { IsUnread walk }
     requires done { walk.past.done < 2 ^ 64 - 1 }
     ensures { IfOk result (Turns task.now tables.now walk line.now) }

@@ -33,7 +33,7 @@ returns-then-count-eq0-clause-rules g c = λ text e.
     let a = follows_all (g.L.Library.left c.args.lib.now) text r.0 c.pull.new.piece c.in_ok-count.count (g.L.Library.left c.loop-past.lib) (g.L.Library.left c.pull.new.self) e c.if-count-eq0.true room r.3 c.in_ok-count.ensures.bytes in
     let size = r.2 in
     let same : length text ≡ length r.0 = ap length a.0 in
-    c.conclude.ensures.rules c.args.most text (subst (λ z. IsRead c.args.task.now z c.loop-past.past c.loop-past.lines) (sym a.0) r.1) (omega (arith, same, size))
+    c.conclude.ensures.rules c.args.most text (subst (λ z. IsRead c.args.task.now z c.loop-past.past c.loop-past.lines) (sym a.0) r.1) (omega (arith, same, size)) c.requires.most
 
 pub returns-then-count-eq0-clause-leaves : goal.returns-then-count-eq0-clause-leaves
 returns-then-count-eq0-clause-leaves g c = λ text e.
@@ -47,7 +47,10 @@ returns-then-count-eq0-clause-holds g c = λ text e.
     let r = c.loop-past.invariant.read in
     let room : 0 < length c.pull.new.piece = omega arith in
     let a = follows_all (g.L.Library.left c.args.lib.now) text r.0 c.pull.new.piece c.in_ok-count.count (g.L.Library.left c.loop-past.lib) (g.L.Library.left c.pull.new.self) e c.if-count-eq0.true room r.3 c.in_ok-count.ensures.bytes in
-    c.conclude.ensures.holds text (subst (λ z. IsRead c.args.task.now z c.loop-past.past c.loop-past.lines) (sym a.0) r.1)
+    let size = r.2 in
+    let most = c.requires.most in
+    let same : length text ≡ length r.0 = ap length a.0 in
+    c.conclude.ensures.holds text (subst (λ z. IsRead c.args.task.now z c.loop-past.past c.loop-past.lines) (sym a.0) r.1) (omega (arith, same, size, most))
 
 pub returns-in-Ok-Fault-clause-rules : goal.returns-in-Ok-Fault-clause-rules
 returns-in-Ok-Fault-clause-rules g c = λ text e.
@@ -97,7 +100,9 @@ returns-in-Err-clause-leaves g c = λ text e.
 pub returns-then-count-eq0-clause-untold : goal.returns-then-count-eq0-clause-untold
 returns-then-count-eq0-clause-untold g c = λ e.
     let r = c.loop-past.invariant.read in
-    let size = r.2 in (r.0, (c.conclude.ensures.rules c.args.most r.0 r.1 (omega (arith, size)), c.conclude.ensures.holds r.0 r.1))
+    let size = r.2 in
+    let most = c.requires.most in
+    (r.0, (c.conclude.ensures.rules c.args.most r.0 r.1 (omega (arith, size)) most, c.conclude.ensures.holds r.0 r.1 (omega (arith, size, most))))
 
 pub returns-in-Ok-Fault-clause-untold : goal.returns-in-Ok-Fault-clause-untold
 returns-in-Ok-Fault-clause-untold g c = λ e.

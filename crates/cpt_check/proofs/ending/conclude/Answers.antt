@@ -1,4 +1,4 @@
-use Rattle.std.proofs.Common.{◌+◌, [], refl, sym, append-nil, inl}
+use Rattle.std.proofs.Common.{◌+◌, [], refl, sym, arith, append-nil, inl}
 use Rattle.cpt_verdict.specs.declared.faults.Why.TheVariants as whys
 use Rattle.cpt_verdict.proofs.TextLines.{whole_text}
 use Rattle.cpt_verdict.proofs.Truth.{certificates_hold}
@@ -6,18 +6,18 @@ use Rattle.cpt_check.proofs.Concluding.{version_at_end, read_faultless}
 use Rattle.cpt_check.proofs.ending.conclude.Goals as goal
 
 pub returns-in-Some-clause-rules : goal.returns-in-Some-clause-rules
-returns-in-Some-clause-rules c = λ most text h le.
+returns-in-Some-clause-rules c = λ most text h le small.
     let k = c.in-Some.ensures c.args.task.now text h in
-    record { size = le; named = c.in-Some.version; version_is = refl; accepts = whole_text c.args.task.now text k.0 c.in-Some.version c.in-Some.claim [] k.2.0 c.tell_bounds.ensures k.1 k.2.1 }
+    record { size = le; named = c.in-Some.version; version_is = refl; accepts = whole_text c.args.task.now text k.0 c.in-Some.version c.in-Some.claim [] k.2.0 c.tell_bounds.ensures (omega (arith, le, small)) k.1 k.2.1 }
 
 pub returns-in-Some-clause-holds : goal.returns-in-Some-clause-holds
-returns-in-Some-clause-holds c = λ text h.
+returns-in-Some-clause-holds c = λ text h short.
     let k = c.in-Some.ensures c.args.task.now text h in
-    let a = whole_text c.args.task.now text k.0 c.in-Some.version c.in-Some.claim [] k.2.0 c.tell_bounds.ensures k.1 k.2.1 in
+    let a = whole_text c.args.task.now text k.0 c.in-Some.version c.in-Some.claim [] k.2.0 c.tell_bounds.ensures short k.1 k.2.1 in
     (c.in-Some.version, refl, (a.0, a.1, certificates_hold c.args.task.now text c.in-Some.version c.in-Some.claim a.0 c.tell_bounds.ensures c.tell_sets.ensures a.1))
 
 pub returns-in-None-clause-rules : goal.returns-in-None-clause-rules
-returns-in-None-clause-rules c = λ most text h le.
+returns-in-None-clause-rules c = λ most text h le small.
     record { version_is = version_at_end c.args.task.now text c.args.past.now c.args.lines.now c.version_of.result h c.version_of.ensures; first = c.in-None.ensures c.args.task.now text h; known = inl le }
 
 pub returns-in-None-clause-leaves : goal.returns-in-None-clause-leaves

@@ -1,9 +1,10 @@
 use Rattle.std.proofs.Common.{◌≡◌, ◌+◌, ◌-◌, List, ◌∷◌, [], ◌++◌, length, take, drop, Ok, None, Some, subst, arith, length-append, length-drop}
 use Rattle.std.proofs.lemmas.List.{length-take}
-use Rattle.cpt_cert.specs.declared.forms.CertLine.{CertLine}
-use Rattle.cpt_cert.specs.Lines.{Feeds}
+use Rattle.cpt_cert_form.specs.declared.forms.CertLine.{CertLine}
+use Rattle.cpt_cert_read.specs.Lines.{Feeds}
 use Rattle.cpt_check.specs.Progress.{IsPast, IsFoundIn, Leads}
-use Rattle.cpt_check.proofs.Taking.{past_few, stage_next, fed_none, fed_line, fed_fault, fed_is_line, fed_rest}
+use Rattle.cpt_check.proofs.Taking.{past_few, past_tokens, stage_next, fed_none, fed_line, fed_fault, fed_is_line}
+use Rattle.cpt_cert_read.proofs.Feeding.{fed_rest}
 use Rattle.cpt_check.proofs.pieces.take_piece.Goals as goal
 
 pub returns-in_default : goal.returns-in_default
@@ -23,6 +24,15 @@ judge_line-requires-clause-line c =
     let f : Feeds c.loop-past.lines c.feed.new.self (drop c.loop-past.at c.args.piece.now) (Ok (c.in_ok-taken.taken, Some c.in-Some.line)) =
     subst (λ z. Feeds c.loop-past.lines c.feed.new.self (drop c.loop-past.at c.args.piece.now) (Ok (c.in_ok-taken.taken, z))) c.in-Some.is (fed_rest c.loop-past.lines c.feed.new.self c.args.piece.now c.loop-past.at (Ok (c.in_ok-taken.taken, c.in_ok-taken.line)) c.in_ok-taken.ensures.exact) in
     fed_is_line c.args.task.now (r.0 ++ take c.loop-past.at c.args.piece.now) c.loop-past.past c.loop-past.lines c.feed.new.self (drop c.loop-past.at c.args.piece.now) c.in_ok-taken.taken c.in-Some.line (c.loop-past.invariant.read r.0 r.1) f
+
+pub judge_line-requires-clause-tokens : goal.judge_line-requires-clause-tokens
+judge_line-requires-clause-tokens c =
+    let r = c.requires.read in
+    let size = r.2 in
+    let at = c.loop-past.invariant.within in
+    let whole = length-append r.0 (take c.loop-past.at c.args.piece.now) in
+    let front = length-take c.loop-past.at c.args.piece.now in
+    past_tokens c.args.task.now (r.0 ++ take c.loop-past.at c.args.piece.now) c.loop-past.past c.loop-past.lines (c.loop-past.invariant.read r.0 r.1) (omega (arith, size, whole, front, at))
 
 pub judge_line-requires-clause-few : goal.judge_line-requires-clause-few
 judge_line-requires-clause-few c =

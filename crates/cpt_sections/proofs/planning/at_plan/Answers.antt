@@ -1,5 +1,5 @@
 use Rattle.std.proofs.Common.{subst}
-use Rattle.cpt_cert.specs.declared.forms.CertLine.{CertLine}
+use Rattle.cpt_cert_form.specs.declared.forms.CertLine.{CertLine}
 use Rattle.cpt_sections.specs.Sections.{IsLine}
 use Rattle.cpt_sections.proofs.PlanLines.{few_items, first_may_end, stray_plan, head_moves}
 use Rattle.cpt_sections.proofs.planning.at_plan.Goals as goal

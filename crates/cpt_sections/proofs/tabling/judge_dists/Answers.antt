@@ -10,7 +10,7 @@ pub returns-in-None : goal.returns-in-None
 returns-in-None c = λ v.
     let r = c.args.rows in
     let so = c.requires.rows in
-    ((so.trees, record { pairs = so.pairs; dists = so.dists }), good_dists c.args.task.now v r (r.head + 1 + r.next) so c.requires.all c.in-None.ensures.answer)
+    ((so.trees, record { pairs = so.pairs; dists = so.dists }), (λ k. tt), good_dists c.args.task.now v r (r.head + 1 + r.next) so c.requires.all c.in-None.ensures.answer)
 
 pub returns-in-Some : goal.returns-in-Some
 returns-in-Some c = λ v.

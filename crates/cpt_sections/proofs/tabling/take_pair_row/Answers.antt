@@ -1,5 +1,5 @@
 use Rattle.std.proofs.Common.{sym, ap, ◌∙◌, arith, ◌≡◌, ◌-◌, length, subst, true, false}
-use Rattle.cpt_cert.specs.declared.forms.CertLine.TheVariants as lines
+use Rattle.cpt_cert_form.specs.declared.forms.CertLine.TheVariants as lines
 use Rattle.cpt_verdict.specs.Reading.{is_row, values_of}
 use Rattle.cpt_sections.specs.declared.section.PairRows.{PairRows}
 use Rattle.cpt_sections.specs.declared.section.Section.TheVariants as sections

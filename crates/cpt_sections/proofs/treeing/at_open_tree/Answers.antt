@@ -11,5 +11,5 @@ pub returns : goal.returns
 returns c =
     let k = c.in_ok-walk.ensures in
     rw c.in-OpenTree.is (
-    λ v. open_tree_begins c.args.task.now c.args.tables v c.args.refuted c.args.nodes c.args.line_number c.in-OpenTree.bound c.in_ok-walk.walk c.requires.section.1 c.if-bound-refuted.false k.parts (k.left c.args.line_number) k.none.0 k.none.1
+    λ v. open_tree_begins c.args.task.now c.args.tables v c.args.refuted c.args.nodes c.args.line_number c.in-OpenTree.bound c.in_ok-walk.walk c.requires.section.1 c.if-bound-refuted.false k.parts (k.left c.args.line_number) k.none.0 k.none.1 k.few
     )

@@ -13,5 +13,5 @@ pub returns : goal.returns
 returns c =
     let left = c.in_ok-walk.ensures.left c.args.line_number in
     rw c.in-Tree.is (
-    λ v. tree_begins c.args.task.now c.args.tables v c.args.trees c.args.line_number c.in-Tree.bound c.in_ok-walk.walk c.requires.section.0 c.requires.section.1 (c.if-bound-closed_bound.false ∙ c.closed_bound.ensures) c.in_ok-walk.ensures.parts left
+    λ v. tree_begins c.args.task.now c.args.tables v c.args.trees c.args.line_number c.in-Tree.bound c.in_ok-walk.walk c.requires.section.0 c.requires.section.1 (c.if-bound-closed_bound.false ∙ c.closed_bound.ensures) c.in_ok-walk.ensures.parts left c.in_ok-walk.ensures.few
     )

@@ -1,5 +1,0 @@
-use Rattle.cpt_cert.proofs.Meaning.{one_meaning}
-use Rattle.cpt_cert.proofs.laws.one_reading.Goals as goal
-
-pub returns : goal.returns
-returns c = one_meaning

@@ -1,6 +1,0 @@
-use Rattle.std.proofs.Common.{◌≡◌, drop}
-use Rattle.cpt_cert.specs.Reading.{are_alone}
-use Rattle.cpt_cert.proofs.rows.are_alone.Given as goal
-
-abbrev pub invariant-loop-run : goal.invariant-loop-run
-invariant-loop-run l = are_alone (drop l.run-index l.runs) ≡ are_alone l.runs

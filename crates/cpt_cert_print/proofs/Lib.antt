@@ -1,0 +1,4 @@
+pub mod RowLemmas
+pub mod Runs
+pub mod WholeLemmas
+pub mod Writing

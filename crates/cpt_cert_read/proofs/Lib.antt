@@ -1,0 +1,14 @@
+pub mod Cutting
+pub mod Enough
+pub mod Joining
+pub mod Keeping
+pub mod LineAgain
+pub mod LineRead
+pub mod Meaning
+pub mod Numerals
+pub mod Parts
+pub mod Feeding
+pub mod RowRead
+pub mod Splits
+pub mod StepRead
+pub mod WordRead
