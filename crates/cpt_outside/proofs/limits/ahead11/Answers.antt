@@ -1,0 +1,15 @@
+use Rattle.std.proofs.Common.{subst}
+use Rattle.cpt_task.specs.declared.span.Span.TheVariants.{At}
+use Rattle.cpt_tables.specs.Spans.{◌<ˢ◌}
+use Rattle.cpt_sheet.specs.declared.data.Interval.{Interval}
+use Rattle.cpt_outside.proofs.LimitLemmas.{proposes_ahead11, not_sooner11}
+use Rattle.cpt_outside.proofs.limits.ahead11.Goals as goal
+
+pub returns-then-is_sooner : goal.returns-then-is_sooner
+returns-then-is_sooner c =
+    proposes_ahead11 c.args.ctx.now.task.now c.args.ctx.now.tables.now c.args.store.now c.args.a c.args.p c.args.x c.args.y c.must_begin_by-to.result c.requires.lent c.requires.deletes c.requires.one c.if-can_precede.ensures c.must_begin_by-to.ensures (subst (λ (i : Interval). c.must_begin_by-to.result <ˢ At i.hi) c.span_at.ensures c.if-is_sooner.ensures)
+
+pub returns-else-is_sooner : goal.returns-else-is_sooner
+returns-else-is_sooner c =
+    not_sooner11 c.args.ctx.now.task.now c.args.ctx.now.tables.now c.args.store.now.sheet c.args.a c.args.p c.args.x c.args.y c.must_begin_by-to.result c.requires.one c.must_begin_by-to.ensures
+    (subst (λ (i : Interval). c.must_begin_by-to.result <ˢ At i.hi → ⊥) c.span_at.ensures c.if-is_sooner.ensures)

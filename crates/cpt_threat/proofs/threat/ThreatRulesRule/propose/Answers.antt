@@ -1,0 +1,4 @@
+use Rattle.cpt_threat.proofs.threat.ThreatRulesRule.propose.Goals as goal
+
+pub propose_at-requires-clause-lent : goal.propose_at-requires-clause-lent
+propose_at-requires-clause-lent c = record { lent = c.requires.lent; live = c.requires.live }
