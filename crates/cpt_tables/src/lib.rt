@@ -13,8 +13,6 @@ mod search;
 mod sets;
 mod spans;
 mod tables;
-#[cfg(test)]
-mod tests;
 
 pub use dist_table::DistTable;
 pub use dists::{admissible_dists, is_at_once, limit_after};
