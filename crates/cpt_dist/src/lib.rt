@@ -4,7 +4,5 @@
 mod row;
 mod start;
 mod table;
-#[cfg(test)]
-mod tests;
 
 pub use table::dist_table;

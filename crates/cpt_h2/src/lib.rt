@@ -6,7 +6,5 @@ mod limits;
 mod marks;
 mod rules;
 mod table;
-#[cfg(test)]
-mod tests;
 
 pub use table::pair_table;

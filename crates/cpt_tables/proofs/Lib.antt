@@ -13,3 +13,5 @@ pub mod PairScans
 pub mod PlaceLemmas
 pub mod PlanFacts
 pub mod ScanLemmas
+pub mod GoalLemmas
+pub mod UniqueLemmas

@@ -5,3 +5,4 @@ pub mod Scans
 pub mod Serving
 pub mod Shapes
 pub mod Spans
+pub mod Unique

@@ -13,13 +13,11 @@ mod search;
 mod sets;
 mod spans;
 mod tables;
-#[cfg(test)]
-mod tests;
 
 pub use dist_table::DistTable;
 pub use dists::{admissible_dists, is_at_once, limit_after};
 pub use faults::{DistFault, PairFault};
-pub use laws::{dists_bound, pairs_bound};
+pub use laws::{dists_bound, one_best, pairs_bound, zero_goals_hold};
 pub use limits::{has, leaves, limit_of_one, limit_of_two, limit_with, served_action};
 pub use pair_table::PairTable;
 pub use pairs::admissible_pairs;

@@ -1,28 +1,15 @@
-//! Known values of small tasks.
+//! Whether tables are admissible: known faults of small tasks.
 
 ghost use Rattle.std.specs.Prelude.{◌≡◌, ◌<◌, IfSome};
 ghost use Rattle.cpt_tables.specs.Spans.{IsBelow};
 ghost use Rattle.cpt_tables.specs.Shapes.{FitsPairs, FitsDists};
 
-use crate::{
+use crate::tasks::{action, ids};
+use cpt_tables::{
     DistFault, DistTable, PairFault, PairTable, admissible_dists, admissible_pairs, set_span,
 };
 use cpt_task::{Action, Ids, List, Span, Task};
 use std::alloc::Global;
-
-fn ids(alloc: Global, xs: &[u32]) -> Option<Ids> {
-    Ids::from_vec(Vec::from_slice(alloc, xs).ok()?)
-}
-
-fn action(alloc: Global, dur: u32, pre: &[u32], add: &[u32], dele: &[u32]) -> Option<Action> {
-    Some(Action {
-        name: List::from_vec(Vec::new(alloc)),
-        dur,
-        pre: ids(alloc, pre)?,
-        add: ids(alloc, add)?,
-        dele: ids(alloc, dele)?,
-    })
-}
 
 // Pair tables of zeros for the task.
 fn zero_pairs(alloc: Global, task: &Task) -> Option<PairTable>

@@ -1,85 +1,14 @@
-//! Known values of small tasks, and a plain reference.
+//! Greatest distance tables: known values of a small task, and a plain reference.
 
 ghost use Rattle.std.specs.Prelude.{◌≡◌, ◌<◌, IfSome, length};
 ghost use Rattle.cpt_tables.specs.Spans.{IsBelow};
 ghost use Rattle.cpt_tables.specs.Shapes.{FitsPairs};
 
-use crate::dist_table;
+use crate::tasks::{mixed, number, side_by_side};
+use cpt_dist::dist_table;
 use cpt_tables::{DistTable, PairTable};
-use cpt_task::{Action, Ids, List, Span, Task};
+use cpt_task::{Action, Span, Task};
 use std::alloc::Global;
-
-fn ids(alloc: Global, xs: &[u32]) -> Option<Ids> {
-    Ids::from_vec(Vec::from_slice(alloc, xs).ok()?)
-}
-
-fn action(alloc: Global, dur: u32, pre: &[u32], add: &[u32], dele: &[u32]) -> Option<Action> {
-    Some(Action {
-        name: List::from_vec(Vec::new(alloc)),
-        dur,
-        pre: ids(alloc, pre)?,
-        add: ids(alloc, add)?,
-        dele: ids(alloc, dele)?,
-    })
-}
-
-fn task(alloc: Global, n: usize, init: &[u32], actions: Vec<Action>) -> Option<Task> {
-    let mut atoms = Vec::new(alloc);
-    for _ in 0..n {
-        atoms.push(List::from_vec(Vec::new(alloc))).ok()?;
-    }
-    if atoms.len() > 2048 || actions.len() > 4096 {
-        return None;
-    }
-    Task::build(atoms, actions, ids(alloc, init)?, ids(alloc, &[])?).ok()
-}
-
-// Actions of 10 and 4 add 0 and 1; an action of 1 needs both and adds 2.
-fn side_by_side(alloc: Global) -> Option<Task> {
-    let mut actions = Vec::new(alloc);
-    actions.push(action(alloc, 10, &[], &[0], &[])?).ok()?;
-    actions.push(action(alloc, 4, &[], &[1], &[])?).ok()?;
-    actions.push(action(alloc, 1, &[0, 1], &[2], &[])?).ok()?;
-    task(alloc, 3, &[], actions)
-}
-
-fn next(seed: &mut u32) -> u32 {
-    *seed = seed.wrapping_mul(1_103_515_245).wrapping_add(12345);
-    *seed >> 16
-}
-
-fn some_ids(alloc: Global, seed: &mut u32, most: u32) -> Option<Ids> {
-    let mut v = Vec::new(alloc);
-    for p in 0..6u32 {
-        if next(seed) % 6 < most {
-            v.push(p).ok()?;
-        }
-    }
-    Ids::from_vec(v)
-}
-
-// Six atoms and seven actions without a plan of their own.
-fn mixed(alloc: Global, start: u32) -> Option<Task> {
-    let mut seed = start;
-    let mut actions = Vec::new(alloc);
-    for k in 0..7u32 {
-        let pre = some_ids(alloc, &mut seed, 1)?;
-        let add = some_ids(alloc, &mut seed, 2)?;
-        let dele = some_ids(alloc, &mut seed, 1)?;
-        let name = List::from_vec(Vec::new(alloc));
-        let dur = 1 + k % 3;
-        actions
-            .push(Action {
-                name,
-                dur,
-                pre,
-                add,
-                dele,
-            })
-            .ok()?;
-    }
-    task(alloc, 6, &[0], actions)
-}
 
 // A pair table of the task's size with this value everywhere.
 fn pairs(alloc: Global, task: &Task, value: Span) -> Option<PairTable>
@@ -183,13 +112,6 @@ fn reference(alloc: Global, task: &Task, together: bool, a: u32) -> Option<Vec<u
         }
     }
     None
-}
-
-fn number(span: Span) -> u64 {
-    match span {
-        Span::At(v) => v,
-        Span::Never => u64::MAX,
-    }
 }
 
 fn agrees(alloc: Global, task: Option<Task>, value: Span) -> Option<bool>
