@@ -9,19 +9,11 @@ use Rattle.cpt_ground.specs.Grounding.{Grounds}
 use Rattle.cpt_reach.specs.declared.pruning.Pruned.{Pruned}
 use Rattle.cpt_reach.specs.Pruning.{Prunes}
 use Rattle.cpt_files.specs.declared.accepted.Accepted.{Accepted}
-use Rattle.cpt_files.specs.declared.ending.Ending.{Ending}
+use Rattle.cpt_answer.specs.declared.ending.Ending.{Ending}
 use Rattle.cpt_files.specs.Accepted.{AcceptsTask, GroundsTo, IsAccepted, KeepsTo, PrunesTo, accepted, ground_ending, prune_ending}
-use Rattle.cpt_files.specs.Files.{Then, ThenBy, ended}
+use Rattle.cpt_answer.specs.Giving.{ThenBy}
+use Rattle.cpt_answer.proofs.Giving.{ended_ok, then_value}
 use Rattle.cpt_files.specs.Texts.{DomainUnder, ProblemUnder}
-
--- a stage before a value has a value
-then_value : {A B : Type 0} (x : Result A Ending) (Q : A → Result B Ending → Type 0) (b : B) → Then x Q (Ok b) → (a : A) × (x ≡ Ok a) × Q a (Ok b)
-then_value (Ok a) Q b h = (a, refl, h)
-then_value (Err e) Q b h = absurd (cc)
-
-pub ended_ok : {A E : Type 0} (ending : E → Ending) (x : Result A E) (a : A) → ended ending x ≡ Ok a → x ≡ Ok a
-ended_ok ending (Ok b) a h = let e : b ≡ a = cc in cc
-ended_ok ending (Err e) a h = absurd (cc)
 
 -- the last stage, and the stages after the domain
 abbrev Last : Domain → Problem → Pruned → Result Accepted Ending → Type 0

@@ -1,5 +1,4 @@
 pub mod Accepting
-pub mod Giving
 pub mod Naming
 pub mod Once
 pub mod Reading

@@ -22,26 +22,14 @@ use Rattle.cpt_ground.proofs.Determined.{one_ground}
 use Rattle.cpt_reach.specs.declared.pruning.Pruned.{Pruned}
 use Rattle.cpt_reach.proofs.OneAnswer.{one_pruning}
 use Rattle.cpt_files.specs.declared.accepted.Accepted.{Accepted}
-use Rattle.cpt_files.specs.declared.ending.Ending.{Ending}
+use Rattle.cpt_answer.specs.declared.ending.Ending.{Ending}
 use Rattle.cpt_files.specs.declared.texts.Source.{Source}
 use Rattle.cpt_files.specs.declared.texts.Source.TheVariants.{OfDomain, OfProblem}
 use Rattle.cpt_files.specs.Accepted.{AcceptsTask, GroundsTo, KeepsTo, PrunesTo, accepted, ground_ending, prune_ending}
-use Rattle.cpt_files.specs.Files.{Then, ThenBy, ended, text_under}
+use Rattle.cpt_answer.specs.Giving.{Then, ThenBy, ended}
+use Rattle.cpt_answer.proofs.Giving.{then_by_once, then_once}
+use Rattle.cpt_files.specs.Files.{text_under}
 use Rattle.cpt_files.specs.Texts.{DomainText, DomainUnder, ParsesTo, ProblemText, ProblemUnder, domain_ending, problem_ending, sexp_ending}
-
--- two stages come to one end where each does
-pub then_once : {A B : Type 0} (x : Result A Ending) (P : A → Result B Ending → Type 0) → ((a : A) (r s : Result B Ending) → x ≡ Ok a → P a r → P a s → r ≡ s) → (r s : Result B Ending) → Then x P r → Then x P s → r ≡ s
-then_once (Ok a) P once r s h k = once a r s refl h k
-then_once (Err e) P once r s h k = h ∙ sym k
-
-by_value : {A B : Type 0} (P : Result A Ending → Type 0) (Q : A → Result B Ending → Type 0) (r s : Result B Ending) → ((a : A) (r s : Result B Ending) → P (Ok a) → Q a r → Q a s → r ≡ s)
-    → (x : Result A Ending) → P x → Then x Q r → Then x Q s → r ≡ s
-by_value P Q r s second (Ok a) p h k = second a r s p h k
-by_value P Q r s second (Err e) p h k = h ∙ sym k
-
-pub then_by_once : {A B : Type 0} (P : Result A Ending → Type 0) (Q : A → Result B Ending → Type 0) → ((x y : Result A Ending) → P x → P y → x ≡ y)
-    → ((a : A) (r s : Result B Ending) → P (Ok a) → Q a r → Q a s → r ≡ s) → (r s : Result B Ending) → ThenBy P Q r → ThenBy P Q s → r ≡ s
-then_by_once P Q first second r s h k = by_value P Q r s second h.0 h.1 h.2 (subst (λ x. Then x Q s) (first k.0 h.0 k.1 h.1) k.2)
 
 -- an error of parsing is the first fault of the text
 abbrev failed : SexpError → Result ForestShape SexpError

@@ -7,7 +7,7 @@ use Rattle.cpt_facts.specs.declared.problem.Problem.{Problem}
 use Rattle.cpt_problem.specs.declared.error.ProblemError.{ProblemError}
 use Rattle.cpt_problem.specs.declared.error.ProblemError.TheVariants as problem_errors
 use Rattle.cpt_problem.specs.Errors as problems
-use Rattle.cpt_files.specs.Files.{Gives, ended}
+use Rattle.cpt_answer.specs.Giving.{Gives, ended}
 use Rattle.cpt_files.specs.Texts.{domain_ending, problem_ending}
 
 -- a domain that is read, or its fault, is what the text says

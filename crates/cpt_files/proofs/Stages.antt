@@ -23,13 +23,15 @@ use Rattle.cpt_reach.specs.Kept.{name_at, renumbered_action}
 use Rattle.cpt_reach.specs.Pruning.{Prunes}
 use Rattle.cpt_reach.specs.Reached.{action_at}
 use Rattle.cpt_files.specs.declared.accepted.Accepted.{Accepted}
-use Rattle.cpt_files.specs.declared.ending.Ending.{Ending}
-use Rattle.cpt_files.specs.declared.ending.Ending.TheVariants.{Passed}
+use Rattle.cpt_answer.specs.declared.ending.Ending.{Ending}
+use Rattle.cpt_answer.specs.declared.ending.Cause.TheVariants.{Passed}
+use Rattle.cpt_answer.specs.declared.ending.Ending.TheVariants.{Because}
 use Rattle.cpt_files.specs.declared.texts.Source.TheVariants.{OfDomain, OfProblem}
 use Rattle.cpt_files.specs.Accepted.{AcceptsTask, GroundsTo, IsSmall, KeepsTo, PrunesTo, accepted, ground_ending, prune_ending}
-use Rattle.cpt_files.specs.Files.{Gives, ThenBy, ended, text_under}
+use Rattle.cpt_answer.specs.Giving.{Gives, ThenBy, ended}
+use Rattle.cpt_files.specs.Files.{text_under}
 use Rattle.cpt_files.specs.Texts.{DomainText, DomainUnder, ParsesTo, ProblemText, ProblemUnder, domain_ending, problem_ending}
-use Rattle.cpt_files.proofs.Giving.{gives_and, if_both, if_some_weaker, then_by_error, then_by_ok, then_ok}
+use Rattle.cpt_answer.proofs.Giving.{gives_and, if_both, if_some_weaker, then_by_error, then_by_ok, then_ok}
 use Rattle.cpt_files.proofs.Reading.{domain_read, problem_read}
 
 -- what a parsed domain text is, and a parsed problem text
@@ -86,8 +88,8 @@ problem_under o steady d name text items r same h g =
 -- grounding passes its limit
 pub ground_failed : (steady : Bool) (d : Domain) (p : Problem) (e : GroundError) → Grounds d p (Err e) → Gives steady (λ (k : Pruned). k) (Err (ground_ending e)) (KeepsTo d p)
 ground_failed steady d p (ground_errors.Limit which) h =
-    let g : GroundsTo d p (Err (Passed which)) = (Err (ground_errors.Limit which), h, tt, (λ e. cc), refl) in
-    (Err (Passed which), g, refl)
+    let g : GroundsTo d p (Err (Because (Passed which))) = (Err (ground_errors.Limit which), h, tt, (λ e. cc), refl) in
+    (Err (Because (Passed which)), g, refl)
 ground_failed steady d p ground_errors.Memory h = tt
 
 grounded : (d : Domain) (p : Problem) (t : TaskShape) → Grounds d p (Ok t) → InBounds t → GroundsTo d p (Ok t)
@@ -109,7 +111,7 @@ kept_small t kept h = record {
 -- pruning passes a limit
 pub prune_failed : (steady : Bool) (d : Domain) (p : Problem) (t : TaskShape) (e : PruneError) → Grounds d p (Ok t) → InBounds t → Prunes t (Err e) → Gives steady (λ (k : Pruned). k) (Err (prune_ending e)) (KeepsTo d p)
 prune_failed steady d p t (prune_errors.Limit which) g bounds h =
-    let prunes : PrunesTo t (Err (Passed which)) = (Err (prune_errors.Limit which), h, (λ e. cc), refl) in
+    let prunes : PrunesTo t (Err (Because (Passed which))) = (Err (prune_errors.Limit which), h, (λ e. cc), refl) in
     (Ok t, grounded d p t g bounds, prunes)
 prune_failed steady d p t prune_errors.Memory g bounds h = tt
 

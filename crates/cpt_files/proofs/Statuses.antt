@@ -19,18 +19,20 @@ use Rattle.cpt_reach.specs.declared.pruning.PruneError.{PruneError}
 use Rattle.cpt_reach.specs.declared.pruning.PruneError.TheVariants as prune_errors
 use Rattle.cpt_reach.specs.declared.pruning.Pruned.{Pruned}
 use Rattle.cpt_files.specs.declared.accepted.Accepted.{Accepted}
-use Rattle.cpt_files.specs.declared.ending.Ending.{Ending}
-use Rattle.cpt_files.specs.declared.ending.Ending.TheVariants as endings
+use Rattle.cpt_answer.specs.declared.ending.Ending.{Ending}
+use Rattle.cpt_answer.specs.declared.ending.Cause.TheVariants.{Passed}
+use Rattle.cpt_answer.specs.declared.ending.Ending.TheVariants as endings
 use Rattle.cpt_files.specs.declared.texts.Source.{Source}
 use Rattle.cpt_files.specs.declared.texts.Source.TheVariants.{OfDomain, OfProblem}
 use Rattle.cpt_files.specs.Accepted.{AcceptsTask, GroundsTo, KeepsTo, PrunesTo, accepted, ground_ending, prune_ending}
-use Rattle.cpt_files.specs.Ending.{ending_status}
-use Rattle.cpt_files.specs.Files.{Then, ThenBy, ended, text_under, within_limit}
+use Rattle.cpt_answer.specs.Endings.{ending_answer}
+use Rattle.cpt_answer.specs.Giving.{Then, ThenBy, ended}
+use Rattle.cpt_files.specs.Files.{text_under, within_limit}
 use Rattle.cpt_files.specs.Texts.{DomainText, DomainUnder, ParsesTo, ProblemText, ProblemUnder, domain_ending, problem_ending, sexp_ending}
 
 -- the ending is no word against a plan
 abbrev pub IsNotOne : Ending → Type 0
-IsNotOne e = ending_status e ≡ 1 → ⊥
+IsNotOne e = (ending_answer e).status ≡ 1 → ⊥
 
 -- an ending of two stages is that of the first or of the second
 pub then_not_one : {A B : Type 0} (x : Result A Ending) (Q : A → Result B Ending → Type 0) (e : Ending) → ((f : Ending) → x ≡ Err f → IsNotOne f) → ((a : A) → Q a (Err e) → IsNotOne e) → Then x Q (Err e) → IsNotOne e
@@ -44,8 +46,8 @@ ended_not_one : {A E : Type 0} (ending : E → Ending) (x : Result A E) (f : End
 ended_not_one ending (Ok a) f each h = absurd (cc)
 ended_not_one ending (Err e) f each h = let same : ending e ≡ f = cc in subst IsNotOne same (each e)
 
-limit_not_one : (long : Bool) (bytes : List ℕ) (f : Ending) → (if long then Err (endings.Passed File) else Ok bytes) ≡ Err f → IsNotOne f
-limit_not_one true bytes f h = let same : endings.Passed File ≡ f = cc in subst IsNotOne same (λ z. cc)
+limit_not_one : (long : Bool) (bytes : List ℕ) (f : Ending) → (if long then Err (endings.Because (Passed File)) else Ok bytes) ≡ Err f → IsNotOne f
+limit_not_one true bytes f h = let same : endings.Because (Passed File) ≡ f = cc in subst IsNotOne same (λ z. cc)
 limit_not_one false bytes f h = absurd (cc)
 
 bytes_not_one : (o : Option (List ℕ)) (f : Ending) → within_limit o ≡ Err f → IsNotOne f

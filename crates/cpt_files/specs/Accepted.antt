@@ -11,9 +11,10 @@ use Rattle.cpt_reach.specs.declared.pruning.PruneError.TheVariants as prune_erro
 use Rattle.cpt_reach.specs.declared.pruning.Pruned.{Pruned}
 use Rattle.cpt_reach.specs.Pruning.{Prunes}
 use Rattle.cpt_files.specs.declared.accepted.Accepted.{Accepted}
-use Rattle.cpt_files.specs.declared.ending.Ending.{Ending}
-use Rattle.cpt_files.specs.declared.ending.Ending.TheVariants.{Passed, Memory}
-use Rattle.cpt_files.specs.Files.{ThenBy, ended}
+use Rattle.cpt_answer.specs.declared.ending.Ending.{Ending}
+use Rattle.cpt_answer.specs.declared.ending.Cause.TheVariants.{Passed}
+use Rattle.cpt_answer.specs.declared.ending.Ending.TheVariants.{Because, Memory}
+use Rattle.cpt_answer.specs.Giving.{ThenBy, ended}
 use Rattle.cpt_files.specs.Texts.{DomainUnder, ProblemUnder}
 
 -- the task keeps the limits of atoms and actions
@@ -23,11 +24,11 @@ pub record IsSmall (t : TaskShape) : Type 0 where
 
 -- the ending where grounding passes a limit, and where pruning does
 abbrev pub ground_ending : GroundError → Ending
-ground_ending (ground_errors.Limit which) = Passed which
+ground_ending (ground_errors.Limit which) = Because (Passed which)
 ground_ending ground_errors.Memory = Memory
 
 abbrev pub prune_ending : PruneError → Ending
-prune_ending (prune_errors.Limit which) = Passed which
+prune_ending (prune_errors.Limit which) = Because (Passed which)
 prune_ending prune_errors.Memory = Memory
 
 -- the ground task of a domain and a problem, whose numbers are in range, or the limit that it passes

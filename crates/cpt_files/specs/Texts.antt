@@ -15,51 +15,53 @@ use Rattle.cpt_facts.specs.Fitting.{Fits}
 use Rattle.cpt_problem.specs.declared.error.ProblemError.{ProblemError}
 use Rattle.cpt_problem.specs.declared.error.ProblemError.TheVariants as problem_errors
 use Rattle.cpt_problem.specs.Reading.{problem_of}
-use Rattle.cpt_files.specs.declared.ending.ByteFault.{ByteFault}
-use Rattle.cpt_files.specs.declared.ending.ByteFault.TheVariants as faults
-use Rattle.cpt_files.specs.declared.ending.Ending.{Ending}
-use Rattle.cpt_files.specs.declared.ending.Ending.TheVariants.{Passed, DomainByte, ProblemByte, Memory}
+use Rattle.cpt_answer.specs.declared.ending.ByteFault.{ByteFault}
+use Rattle.cpt_answer.specs.declared.ending.ByteFault.TheVariants as faults
+use Rattle.cpt_answer.specs.declared.ending.Ending.{Ending}
+use Rattle.cpt_answer.specs.declared.ending.Cause.TheVariants.{Passed, DomainByte, ProblemByte}
+use Rattle.cpt_answer.specs.declared.ending.Ending.TheVariants.{Because, Memory}
 use Rattle.cpt_files.specs.declared.texts.Source.{Source}
 use Rattle.cpt_files.specs.declared.texts.Source.TheVariants.{OfDomain, OfProblem}
-use Rattle.cpt_files.specs.Files.{Then, ThenBy, ended, text_under}
+use Rattle.cpt_answer.specs.Giving.{Then, ThenBy, ended}
+use Rattle.cpt_files.specs.Files.{text_under}
 
 -- the ending at a fault at a byte of the domain text, or of the problem text
 abbrev pub at_byte : Source → ℕ → ByteFault → Ending
-at_byte OfDomain at fault = DomainByte at fault
-at_byte OfProblem at fault = ProblemByte at fault
+at_byte OfDomain at fault = Because (DomainByte at fault)
+at_byte OfProblem at fault = Because (ProblemByte at fault)
 
 -- the ending at a fault of a text's bytes and parentheses
 abbrev pub sexp_ending : Source → SexpError → Ending
 sexp_ending source (sexp_errors.BadByte at) = at_byte source at faults.BadByte
 sexp_ending source (sexp_errors.Unopened at) = at_byte source at faults.Unopened
 sexp_ending source (sexp_errors.Unclosed at) = at_byte source at faults.Unclosed
-sexp_ending source (sexp_errors.Deep at) = Passed Nesting
+sexp_ending source (sexp_errors.Deep at) = Because (Passed Nesting)
 sexp_ending source sexp_errors.Memory = Memory
 
 -- the ending at a fault of a domain text
 abbrev pub domain_ending : DomainError → Ending
-domain_ending (domain_errors.Shape at) = DomainByte at faults.Shape
-domain_ending (domain_errors.BadName at) = DomainByte at faults.BadName
-domain_ending (domain_errors.Twice at) = DomainByte at faults.Twice
-domain_ending (domain_errors.BadType at) = DomainByte at faults.BadType
-domain_ending (domain_errors.Arity at) = DomainByte at faults.Arity
-domain_ending (domain_errors.Feature which at) = DomainByte at (faults.Feature which)
-domain_ending (domain_errors.Window at) = DomainByte at faults.Window
-domain_ending (domain_errors.Duration at) = DomainByte at faults.Duration
-domain_ending (domain_errors.Limit which at) = Passed which
+domain_ending (domain_errors.Shape at) = Because (DomainByte at faults.Shape)
+domain_ending (domain_errors.BadName at) = Because (DomainByte at faults.BadName)
+domain_ending (domain_errors.Twice at) = Because (DomainByte at faults.Twice)
+domain_ending (domain_errors.BadType at) = Because (DomainByte at faults.BadType)
+domain_ending (domain_errors.Arity at) = Because (DomainByte at faults.Arity)
+domain_ending (domain_errors.Feature which at) = Because (DomainByte at (faults.Feature which))
+domain_ending (domain_errors.Window at) = Because (DomainByte at faults.Window)
+domain_ending (domain_errors.Duration at) = Because (DomainByte at faults.Duration)
+domain_ending (domain_errors.Limit which at) = Because (Passed which)
 domain_ending domain_errors.Memory = Memory
 
 -- the ending at a fault of a problem text
 abbrev pub problem_ending : ProblemError → Ending
-problem_ending (problem_errors.Shape at) = ProblemByte at faults.Shape
-problem_ending (problem_errors.BadName at) = ProblemByte at faults.BadName
-problem_ending (problem_errors.Twice at) = ProblemByte at faults.Twice
-problem_ending (problem_errors.BadType at) = ProblemByte at faults.BadType
-problem_ending (problem_errors.Arity at) = ProblemByte at faults.Arity
-problem_ending (problem_errors.Feature which at) = ProblemByte at (faults.Feature which)
-problem_ending (problem_errors.Duration at) = ProblemByte at faults.Duration
-problem_ending (problem_errors.Limit which at) = Passed which
-problem_ending (problem_errors.OtherDomain at) = ProblemByte at faults.OtherDomain
+problem_ending (problem_errors.Shape at) = Because (ProblemByte at faults.Shape)
+problem_ending (problem_errors.BadName at) = Because (ProblemByte at faults.BadName)
+problem_ending (problem_errors.Twice at) = Because (ProblemByte at faults.Twice)
+problem_ending (problem_errors.BadType at) = Because (ProblemByte at faults.BadType)
+problem_ending (problem_errors.Arity at) = Because (ProblemByte at faults.Arity)
+problem_ending (problem_errors.Feature which at) = Because (ProblemByte at (faults.Feature which))
+problem_ending (problem_errors.Duration at) = Because (ProblemByte at faults.Duration)
+problem_ending (problem_errors.Limit which at) = Because (Passed which)
+problem_ending (problem_errors.OtherDomain at) = Because (ProblemByte at faults.OtherDomain)
 problem_ending problem_errors.Memory = Memory
 
 -- the words and groups of a text, or its first fault

@@ -1,13 +1,13 @@
 //! Domains and problems with the part of their ground task that plans can use.
 
-ghost use Rattle.std.specs.Prelude.{◌≡◌, ◌≢◌, ◌-◌, ◌^◌, ◌<◌, Bool, IsTrue, IfOk, IfSome};
+ghost use Rattle.std.specs.Prelude.{◌≡◌, ◌≢◌, ◌-◌, ◌^◌, ◌<◌, Bool, IsTrue, IfOk, IfSome, [], Some, IsSome, OnOk};
 ghost use Rattle.cpt_domain.specs.Sound.{IsSound};
 ghost use Rattle.cpt_facts.specs.Fitting.{Fits};
 ghost use Rattle.cpt_files.specs.Accepted.{AcceptsTask, IsSmall, KeepsTo, ground_ending, prune_ending};
-ghost use Rattle.cpt_files.specs.Files.{Gives};
+ghost use Rattle.cpt_answer.specs.Giving.{Gives};
 
-use crate::ending::Ending;
 use crate::texts::{domain_in, problem_in};
+use cpt_answer::{Cause, Ending};
 use cpt_domain::Domain;
 use cpt_facts::Problem;
 use cpt_ground::{GroundError, ground};
@@ -25,22 +25,20 @@ pub struct Accepted {
 
 fn from_ground(e: GroundError) -> Ending
     ensures value { result ≡ ground_ending e }
-    ensures known { result ≢ Ending.Usage }
     ensures kept { result ≢ Ending.Read }
 {
     match e {
-        GroundError::Limit(which) => Ending::Passed(which),
+        GroundError::Limit(which) => Ending::Because(Cause::Passed(which)),
         GroundError::Memory => Ending::Memory,
     }
 }
 
 fn from_prune(e: PruneError) -> Ending
     ensures value { result ≡ prune_ending e }
-    ensures known { result ≢ Ending.Usage }
     ensures kept { result ≢ Ending.Read }
 {
     match e {
-        PruneError::Limit(which) => Ending::Passed(which),
+        PruneError::Limit(which) => Ending::Because(Cause::Passed(which)),
         PruneError::Memory => Ending::Memory,
     }
 }
@@ -51,7 +49,6 @@ fn kept_part(alloc: Global, domain: &Domain, problem: &Problem) -> Result<Pruned
     requires fits { Fits domain.now problem.now }
     ensures answer { (steady : Bool) → Gives steady (λ kept. kept) result (KeepsTo domain.now problem.now) }
     ensures small { IfOk result (λ kept. IsSmall kept.task) }
-    ensures known { result ≢ Err Ending.Usage }
     ensures kept { result ≢ Err Ending.Read }
 {
     let task = match ground(alloc, domain, problem) {
@@ -78,10 +75,10 @@ pub fn accepted_in<L: Library>(
     ensures sound { IfOk result (λ a. IsSound a.domain) }
     ensures fits { IfOk result (λ a. Fits a.domain a.problem) }
     ensures small { IfOk result (λ a. IsSmall a.kept.task) }
-    ensures known { result ≢ Err Ending.Usage }
     ensures failed { result ≡ Err Ending.Read → L.faults lib.old < L.faults lib.new }
     ensures kept { result ≢ Err Ending.Read → L.faults lib.new ≡ L.faults lib.old }
     ensures steady { IsTrue (L.steady lib.old) → IsTrue (L.steady lib.new) }
+    ensures end { OnOk result (IsSome (L.holds lib.old) → L.left lib.new ≡ Some []) }
 {
     let domain = match domain_in(alloc, lib, domain_name) {
         Ok(domain) => domain,

@@ -1,11 +1,12 @@
 //! Texts, tasks and plans in files.
 
-ghost use Rattle.std.specs.Prelude.{◌≡◌, ◌≢◌, ◌-◌, ◌^◌, ◌<◌, ◌≤◌, length, IsErrOf, IsTrue, IfOk, IfSome};
+ghost use Rattle.std.specs.Prelude.{◌≡◌, ◌≢◌, ◌-◌, ◌^◌, ◌<◌, ◌≤◌, length, IsErrOf, IsTrue, IfOk, IfSome, [], Some, IsSome, OnOk};
 ghost use Rattle.cpt_plan_text.specs.Knowing.{KnowsActions};
 ghost use Rattle.cpt_task.specs.Judgeable.{IsJudgeable};
-ghost use Rattle.cpt_files.specs.Files.{Gives, read_ending, task_ending, plan_ending, text_under, task_under, plan_by};
+ghost use Rattle.cpt_answer.specs.Giving.{Gives};
+ghost use Rattle.cpt_files.specs.Files.{read_ending, task_ending, plan_ending, text_under, task_under, plan_by};
 
-use crate::ending::Ending;
+use cpt_answer::{Cause, Ending};
 use cpt_io::{Library, ReadError, read_all};
 use cpt_task::{Limit, Task};
 use cpt_text::{PlanText, PlanTextError, Roster, TaskTextError, read_plan, read_task};
@@ -20,10 +21,10 @@ pub fn text_in<L: Library>(alloc: Global, lib: &mut L, name: &str) -> Result<Vec
     ensures same { L.holds lib.new ≡ L.holds lib.old }
     ensures answer { IfSome (L.holds lib.old) (λ files. Gives (L.steady lib.old) (λ text. text.items) result (λ read. text_under files name.now ≡ read)) }
     ensures short { IfOk result (λ text. length text.items ≤ 16777216) }
-    ensures known { result ≢ Err Ending.Usage }
     ensures failed { result ≡ Err Ending.Read → L.faults lib.old < L.faults lib.new }
     ensures kept { result ≢ Err Ending.Read → L.faults lib.new ≡ L.faults lib.old }
     ensures steady { IsTrue (L.steady lib.old) → IsTrue (L.steady lib.new) }
+    ensures end { OnOk result (IsSome (L.holds lib.old) → L.left lib.new ≡ Some []) }
 {
     match read_all(alloc, lib, name, FILE_LIMIT) {
         Ok(text) => Ok(text),
@@ -33,36 +34,33 @@ pub fn text_in<L: Library>(alloc: Global, lib: &mut L, name: &str) -> Result<Vec
 
 fn from_reading(e: ReadError) -> Ending
     ensures value { result ≡ read_ending e }
-    ensures known { result ≢ Ending.Usage }
 {
     match e {
         ReadError::Failed => Ending::Read,
-        ReadError::TooLong => Ending::Passed(Limit::File),
+        ReadError::TooLong => Ending::Because(Cause::Passed(Limit::File)),
         ReadError::Memory => Ending::Memory,
     }
 }
 
 fn from_task_text(e: TaskTextError) -> Ending
     ensures value { result ≡ task_ending e }
-    ensures known { result ≢ Ending.Usage }
 {
     match e {
-        TaskTextError::Line(line) => Ending::TaskLine(line),
-        TaskTextError::Limit(limit) => Ending::Passed(limit),
+        TaskTextError::Line(line) => Ending::Because(Cause::TaskLine(line)),
+        TaskTextError::Limit(limit) => Ending::Because(Cause::Passed(limit)),
         TaskTextError::Memory => Ending::Memory,
     }
 }
 
 fn from_plan_text(e: PlanTextError) -> Ending
     ensures value { result ≡ plan_ending e }
-    ensures known { result ≢ Ending.Usage }
 {
     match e {
-        PlanTextError::Line(line) => Ending::PlanLine(line),
-        PlanTextError::Unknown(line) => Ending::PlanUnknown(line),
-        PlanTextError::Limit(limit) => Ending::Passed(limit),
-        PlanTextError::Duration(line, dur) => Ending::MustLast(line, dur),
-        PlanTextError::Unreachable(line) => Ending::IsUnreachable(line),
+        PlanTextError::Line(line) => Ending::Because(Cause::PlanLine(line)),
+        PlanTextError::Unknown(line) => Ending::Because(Cause::PlanUnknown(line)),
+        PlanTextError::Limit(limit) => Ending::Because(Cause::Passed(limit)),
+        PlanTextError::Duration(line, dur) => Ending::Because(Cause::MustLast(line, dur)),
+        PlanTextError::Unreachable(line) => Ending::Because(Cause::IsUnreachable(line)),
         PlanTextError::Memory => Ending::Memory,
     }
 }
@@ -72,10 +70,10 @@ pub fn task_in<L: Library>(alloc: Global, lib: &mut L, name: &str) -> Result<Tas
     requires { L.faults lib.old < 2 ^ 64 - 1 }
     ensures same { L.holds lib.new ≡ L.holds lib.old }
     ensures answer { IfSome (L.holds lib.old) (λ files. Gives (L.steady lib.old) (λ task. task) result (λ read. task_under files name.now ≡ read)) }
-    ensures known { result ≢ Err Ending.Usage }
     ensures failed { result ≡ Err Ending.Read → L.faults lib.old < L.faults lib.new }
     ensures kept { result ≢ Err Ending.Read → L.faults lib.new ≡ L.faults lib.old }
     ensures steady { IsTrue (L.steady lib.old) → IsTrue (L.steady lib.new) }
+    ensures end { OnOk result (IsSome (L.holds lib.old) → L.left lib.new ≡ Some []) }
 {
     let text = match text_in(alloc, lib, name) {
         Ok(text) => text,
@@ -102,10 +100,10 @@ pub fn plan_in<L: Library, R: Roster>(
     ensures plan { IfOk result (λ plan. IsJudgeable task.now plan.occs) }
     ensures short { IfOk result (λ plan. length plan.occs < 2 ^ 32) }
     ensures lines { IfOk result (λ plan. length plan.lines ≡ length plan.occs) }
-    ensures known { result ≢ Err Ending.Usage }
     ensures failed { result ≡ Err Ending.Read → L.faults lib.old < L.faults lib.new }
     ensures kept { result ≢ Err Ending.Read → L.faults lib.new ≡ L.faults lib.old }
     ensures steady { IsTrue (L.steady lib.old) → IsTrue (L.steady lib.new) }
+    ensures end { OnOk result (IsSome (L.holds lib.old) → L.left lib.new ≡ Some []) }
 {
     let text = match text_in(alloc, lib, name) {
         Ok(text) => text,

@@ -2,7 +2,7 @@
 
 ghost use Rattle.std.specs.Prelude.{◌≡◌, IfOk};
 
-use crate::counting::{CountingLibrary, CountingSink};
+use crate::counting::CountingSink;
 use crate::plans::{ASKED, SHARED};
 use crate::scene::{Case, expect, library, output, words_of};
 use cpt_io::{Library, MemLibrary, MemSink};
@@ -36,42 +36,6 @@ fn a_file_that_is_not_held_cannot_be_read(rt: HostRuntime) -> Result<(), Fail> {
         text: "fault: task line 1: line\n",
     };
     expect(&rt, rt.alloc(), &faulty_task, 64)
-}
-
-/// Runs over a library in which one call fails, and says whether that call was made. It was the last one then.
-fn reads_fail_at(rt: &impl Abort, alloc: Global, call: u64) -> Result<bool, Fail> {
-    let words = words_of(alloc, ASKED)?;
-    let mut lib = CountingLibrary {
-        inner: library(alloc, &[SHARED, PLAN], &[call], 64)?,
-        calls: 0,
-    };
-    let mut out = output(alloc, &[])?;
-    let status = run(alloc, &words, &mut lib, &mut out);
-    if status == 0 {
-        assert_eq!(rt; out.written(), b"valid 8\n".as_slice());
-        return Ok(false);
-    }
-    assert_eq!(rt; status, 7, "at call {call}");
-    assert_eq!(rt; lib.calls, call.saturating_add(1));
-    assert_eq!(rt;
-        out.written(),
-        b"fault: read\n".as_slice(),
-        "at call {call}"
-    );
-    Ok(true)
-}
-
-#[test]
-fn each_failing_read_is_the_last_call_and_is_answered(rt: HostRuntime) -> Result<(), Fail> {
-    // The task has 112 bytes and the plan 14: two openings, three pulls of the task and two of the plan.
-    for call in 0..7 {
-        assert!(rt;
-            reads_fail_at(&rt, rt.alloc(), call)?,
-            "call {call} was not made"
-        );
-    }
-    assert!(rt; !reads_fail_at(&rt, rt.alloc(), 7)?);
-    Ok(())
 }
 
 /// Runs these words over an output whose first write fails: it is the only one.

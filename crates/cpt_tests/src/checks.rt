@@ -1,21 +1,21 @@
 //! Certificates over domains and problems.
 
-use crate::counting::{CountingLibrary, CountingSink};
+use crate::counting::CountingLibrary;
 use crate::scene::{Case, expect, library, output, words_of};
 use cpt_top::run;
 use std::alloc::{AllocError, Global};
 use std::process::Abort;
 use std::test::Fail;
 
-const CHECK: &[&str] = &["check", "d", "p", "c"];
+pub const CHECK: &[&str] = &["check", "d", "p", "c"];
 
 /// A key that one action makes and two others use up.
-const KEY: &str = "(define (domain key) (:predicates (k) (g1) (g2))
+pub const KEY: &str = "(define (domain key) (:predicates (k) (g1) (g2))
 (:durative-action u :parameters () :duration (= ?duration 1) :condition () :effect (at end (k)))
 (:durative-action v1 :parameters () :duration (= ?duration 2) :condition (over all (k)) :effect (and (at end (not (k))) (at end (g1))))
 (:durative-action v2 :parameters () :duration (= ?duration 2) :condition (over all (k)) :effect (and (at end (not (k))) (at end (g2)))))";
 
-const BOTH: &str = "(define (problem both) (:domain key) (:init) (:goal (and (g1) (g2))))";
+pub const BOTH: &str = "(define (problem both) (:domain key) (:init) (:goal (and (g1) (g2))))";
 
 /// The plan makes the key twice. Both goals together take 6.
 const OPTIMAL: &[&str] = &[
@@ -510,47 +510,6 @@ fn the_certificate_is_opened_once_the_task_is_made(rt: HostRuntime) -> Result<()
     expect(&rt, rt.alloc(), &faulty, 64)
 }
 
-/// Runs over a library in which one call fails, and says whether that call was made. It was the last one then.
-fn reads_fail_at(rt: &impl Abort, alloc: Global, cert: &str, call: u64) -> Result<bool, Fail> {
-    let words = words_of(alloc, CHECK)?;
-    let mut lib = CountingLibrary {
-        inner: library(alloc, &[("d", KEY), ("p", BOTH), ("c", cert)], &[call], 64)?,
-        calls: 0,
-    };
-    let mut out = output(alloc, &[])?;
-    let status = run(alloc, &words, &mut lib, &mut out);
-    if status == 0 {
-        assert_eq!(rt;
-            out.written(),
-            b"version 1\naccepted: optimal 6\n".as_slice()
-        );
-        return Ok(false);
-    }
-    assert_eq!(rt; status, 7, "at call {call}");
-    assert_eq!(rt; lib.calls, call.saturating_add(1));
-    assert_eq!(rt;
-        out.written(),
-        b"fault: read\n".as_slice(),
-        "at call {call}"
-    );
-    Ok(true)
-}
-
-#[test]
-fn each_failing_read_of_a_check_is_the_last_call(rt: HostRuntime) -> Result<(), Fail> {
-    let alloc = rt.alloc();
-    let cert = text_with(alloc, OPTIMAL, 0, &[])?;
-    // The domain has 418 bytes, the problem 69 and the certificate 125: three openings, and 8, 3 and 3 pulls.
-    for call in 0..17 {
-        assert!(rt;
-            reads_fail_at(&rt, alloc, cert.as_str(), call)?,
-            "call {call} was not made"
-        );
-    }
-    assert!(rt; !reads_fail_at(&rt, alloc, cert.as_str(), 17)?);
-    Ok(())
-}
-
 #[test]
 fn nothing_is_read_behind_a_fault(rt: HostRuntime) -> Result<(), Fail> {
     let alloc = rt.alloc();
@@ -566,26 +525,5 @@ fn nothing_is_read_behind_a_fault(rt: HostRuntime) -> Result<(), Fail> {
     assert_eq!(rt; run(alloc, &words, &mut lib, &mut out), 1);
     assert_eq!(rt; lib.calls, 15);
     assert_eq!(rt; out.written(), b"rejected: line 1: grammar\n".as_slice());
-    Ok(())
-}
-
-#[test]
-fn a_failing_write_of_a_check_is_the_only_one(rt: HostRuntime) -> Result<(), Fail> {
-    let alloc = rt.alloc();
-    let cert = text_with(alloc, OPTIMAL, 0, &[])?;
-    let words = words_of(alloc, CHECK)?;
-    let mut lib = library(
-        alloc,
-        &[("d", KEY), ("p", BOTH), ("c", cert.as_str())],
-        &[],
-        64,
-    )?;
-    let mut failing = CountingSink {
-        inner: output(alloc, &[0])?,
-        calls: 0,
-    };
-    assert_eq!(rt; run(alloc, &words, &mut lib, &mut failing), 8);
-    assert_eq!(rt; failing.calls, 1);
-    assert_eq!(rt; failing.inner.written(), b"".as_slice());
     Ok(())
 }

@@ -4,14 +4,14 @@ use crate::scene::{Case, File, expect, expect_all};
 use std::test::Fail;
 
 /// A door is shut, and what may be painted only while it is not open.
-const DOORS: File = (
+pub const DOORS: File = (
     "d",
     "(define (domain doors) (:predicates (open) (painted))
 (:durative-action shut :parameters () :duration (= ?duration 3) :condition (over all (open)) :effect (at end (not (open))))
 (:durative-action paint :parameters () :duration (= ?duration 2) :condition (over all (not (open))) :effect (at end (painted))))",
 );
 
-const ONE_DOOR: File = (
+pub const ONE_DOOR: File = (
     "p",
     "(define (problem one) (:domain doors) (:init (open)) (:goal (and (painted) (not (open)))))",
 );
@@ -37,9 +37,9 @@ const ONE_WAY: File = (
 (:goal (at lark south)) (:metric minimize (total-time)))",
 );
 
-const LIST: &[&str] = &["ground", "d", "p"];
+pub const LIST: &[&str] = &["ground", "d", "p"];
 
-const JUDGE: &[&str] = &["validate", "d", "p", "n"];
+pub const JUDGE: &[&str] = &["validate", "d", "p", "n"];
 
 #[test]
 fn a_listing_has_complements_of_atoms_that_are_required_absent(

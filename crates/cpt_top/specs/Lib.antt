@@ -1,5 +1,1 @@
-pub mod Claims
 pub mod Commands
-pub mod Printing
-pub mod Rulings
-pub mod Verdicts

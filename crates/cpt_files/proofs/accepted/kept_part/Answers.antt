@@ -1,8 +1,8 @@
 use Rattle.std.proofs.Common.{Err, sym, subst}
 use Rattle.cpt_reach.specs.declared.pruning.Pruned.{Pruned}
-use Rattle.cpt_files.specs.declared.ending.Ending.{Ending}
+use Rattle.cpt_answer.specs.declared.ending.Ending.{Ending}
 use Rattle.cpt_files.specs.Accepted.{KeepsTo}
-use Rattle.cpt_files.specs.Files.{Gives}
+use Rattle.cpt_answer.specs.Giving.{Gives}
 use Rattle.cpt_files.proofs.Stages.{ground_failed, keeps_given, kept_small, prune_failed}
 use Rattle.cpt_files.proofs.accepted.kept_part.Goals as goal
 

@@ -1,7 +1,7 @@
 use Rattle.std.proofs.Common.{Err, sym, subst, true}
 use Rattle.cpt_domain.specs.declared.domain.Domain.{Domain}
-use Rattle.cpt_files.specs.declared.ending.Ending.{Ending}
-use Rattle.cpt_files.specs.Files.{Gives}
+use Rattle.cpt_answer.specs.declared.ending.Ending.{Ending}
+use Rattle.cpt_answer.specs.Giving.{Gives}
 use Rattle.cpt_files.specs.Texts.{DomainText}
 use Rattle.cpt_files.proofs.Stages.{domain_faulty, domain_given, domain_unparsed}
 use Rattle.cpt_files.proofs.texts.domain_in_text.Goals as goal

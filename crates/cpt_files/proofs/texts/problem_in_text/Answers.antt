@@ -1,7 +1,7 @@
 use Rattle.std.proofs.Common.{Err, sym, subst, true}
 use Rattle.cpt_facts.specs.declared.problem.Problem.{Problem}
-use Rattle.cpt_files.specs.declared.ending.Ending.{Ending}
-use Rattle.cpt_files.specs.Files.{Gives}
+use Rattle.cpt_answer.specs.declared.ending.Ending.{Ending}
+use Rattle.cpt_answer.specs.Giving.{Gives}
 use Rattle.cpt_files.specs.Texts.{ProblemText}
 use Rattle.cpt_files.proofs.Stages.{problem_faulty, problem_given, problem_unparsed}
 use Rattle.cpt_files.proofs.texts.problem_in_text.Goals as goal

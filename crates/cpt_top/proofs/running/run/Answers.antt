@@ -1,53 +1,62 @@
-use Rattle.std.proofs.Common.{string_bytes, map}
-use Rattle.cpt_top.specs.Printing.{output}
-use Rattle.cpt_top.proofs.RunLemmas as lemmas
+use Rattle.std.proofs.Common.{string_bytes, map, sym}
+use Rattle.cpt_answer.specs.Promise.{Call, call}
+use Rattle.cpt_answer.specs.Writing.{output}
+use Rattle.cpt_words.specs.Words.{asked_of}
+use Rattle.cpt_top.proofs.RunLemmas.{AllKept, command_kept, usage_kept}
 use Rattle.cpt_top.proofs.running.run.Goals as goal
 
-pub returns : goal.returns
-returns g c =
-    let x : lemmas.Run = record {
-      files = g.L.Library.holds c.args.lib.now;
-      steady = g.L.Library.steady c.args.lib.now;
-      words = map string_bytes c.args.words.now;
-      r = c.reply_in-answer.result;
-      before = g.L.Library.faults c.args.lib.now;
-      now = g.L.Library.faults c.reply_in-answer.new.lib;
-      old = output (g.K.Sink.faults c.args.out.now) (g.K.Sink.written c.args.out.now);
-      new = output (g.K.Sink.faults c.put.new.out) (g.K.Sink.written c.put.new.out);
-      status = c.put.result;
-      ran = record {
-        answer = c.reply_in-answer.ensures.answer;
-        small = c.reply_in-answer.ensures.status;
-        usage = c.reply_in-answer.ensures.usage;
-        failed = c.reply_in-answer.ensures.failed;
-        kept = c.reply_in-answer.ensures.kept;
-        writes = c.put.ensures.writes;
-        read = c.put.ensures.read;
-        asked = c.put.ensures.usage;
-      };
-    } in
+pub returns-in-Some : goal.returns-in-Some
+returns-in-Some g c =
+    let x : Call = call (g.L.Library.steady c.args.lib.now) (g.L.Library.faults c.args.lib.now) (g.L.Library.faults c.perform.new.lib) (output (g.K.Sink.faults c.args.out.now) (g.K.Sink.written c.args.out.now))
+    (output (g.K.Sink.faults c.perform.new.out) (g.K.Sink.written c.perform.new.out)) c.perform.result in
+    let k : AllKept (g.L.Library.holds c.args.lib.now) (map string_bytes c.args.words.now) (g.L.Library.left c.perform.new.lib) x =
+    command_kept (g.L.Library.holds c.args.lib.now) (map string_bytes c.args.words.now) (g.L.Library.left c.perform.new.lib) x (asked_of c.in-Some.command) (sym c.in-Some.ensures) c.perform.ensures.performs
+    c.perform.ensures.keeps c.perform.ensures.end in
     record {
-      known = lemmas.known x;
-      valid = lemmas.validated x;
-      validates = lemmas.validates x;
-      judged = lemmas.judged x;
-      judges = lemmas.judges x;
-      listed = lemmas.listed x;
-      lists = lemmas.lists x;
-      checked = lemmas.checked x;
-      checks = lemmas.checks x;
-      rejected = lemmas.rejected x;
-      rejects = lemmas.rejects x;
-      only = lemmas.only x;
-      complete = lemmas.complete x;
-      usage = lemmas.usage_only x;
-      unknown = lemmas.usage_comes x;
-      read = lemmas.read_exactly x;
-      read_text = lemmas.read_text x;
-      lacking = lemmas.lacking x;
-      write = lemmas.write_exactly x;
-      front = lemmas.front x;
-      memory = lemmas.memory_text x;
-      reads = lemmas.never_falls x;
-      writes = lemmas.output_never_falls x;
+      known = k.known;
+      only = k.only;
+      given = k.given;
+      end = k.end;
+      usage = k.usage;
+      unknown = k.unknown;
+      read = k.read;
+      read_text = k.read_text;
+      lacking = k.lacking;
+      write = k.write;
+      front = k.front;
+      memory = k.memory;
+      reads = k.reads;
+      writes = k.writes;
+      validate_task = k.validate_task;
+      validate = k.validate;
+      ground = k.ground;
+      check = k.check;
+    }
+
+pub returns-in-None : goal.returns-in-None
+returns-in-None g c =
+    let x : Call = call (g.L.Library.steady c.args.lib.now) (g.L.Library.faults c.args.lib.now) (g.L.Library.faults c.args.lib.now) (output (g.K.Sink.faults c.args.out.now) (g.K.Sink.written c.args.out.now))
+    (output (g.K.Sink.faults c.put_usage.new.out) (g.K.Sink.written c.put_usage.new.out)) c.put_usage.result in
+    let k : AllKept (g.L.Library.holds c.args.lib.now) (map string_bytes c.args.words.now) (g.L.Library.left c.args.lib.now) x =
+    usage_kept (g.L.Library.holds c.args.lib.now) (map string_bytes c.args.words.now) (g.L.Library.left c.args.lib.now) (g.L.Library.steady c.args.lib.now) (g.L.Library.faults c.args.lib.now)
+    (output (g.K.Sink.faults c.args.out.now) (g.K.Sink.written c.args.out.now)) (output (g.K.Sink.faults c.put_usage.new.out) (g.K.Sink.written c.put_usage.new.out)) c.put_usage.result (sym c.in-None.ensures) c.put_usage.ensures in
+    record {
+      known = k.known;
+      only = k.only;
+      given = k.given;
+      end = k.end;
+      usage = k.usage;
+      unknown = k.unknown;
+      read = k.read;
+      read_text = k.read_text;
+      lacking = k.lacking;
+      write = k.write;
+      front = k.front;
+      memory = k.memory;
+      reads = k.reads;
+      writes = k.writes;
+      validate_task = k.validate_task;
+      validate = k.validate;
+      ground = k.ground;
+      check = k.check;
     }

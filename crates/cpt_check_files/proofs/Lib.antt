@@ -1,0 +1,5 @@
+pub mod Certified
+pub mod CheckingFiles
+pub mod Ends
+pub mod Keeping
+pub mod RulingOnce

@@ -1,0 +1,7 @@
+//! The command `check`.
+#![tactic(auto)]
+
+mod checking;
+mod rulings;
+
+pub use checking::check_certificate;

@@ -1,5 +1,0 @@
-use Rattle.std.proofs.Common.{rules, append_assoc}
-use Rattle.cpt_files.proofs.ending.problem_fault_line.Goals as goal
-
-pub returns : goal.returns
-returns c = simp append_assoc (search rules)

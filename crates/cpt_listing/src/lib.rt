@@ -1,0 +1,6 @@
+//! The command `ground`.
+#![tactic(auto)]
+
+mod listing;
+
+pub use listing::ground;

@@ -1,7 +1,0 @@
-use Rattle.cpt_top.proofs.CheckingFiles.{checked_files}
-use Rattle.cpt_top.proofs.checking.check_files.Goals as goal
-
-pub returns-clause-answer : goal.returns-clause-answer
-returns-clause-answer g c =
-    checked_files (g.L.Library.holds c.args.lib.now) (g.L.Library.holds c.accepted_in.new.lib) (g.L.Library.steady c.args.lib.now) c.args.domain_name.now c.args.problem_name.now c.args.cert_name.now c.in-Ok.accepted
-    c.in-Ok-ruling_in.judged c.reply_at.result c.in-Ok.ensures.same c.in-Ok.ensures.answer c.in-Ok-ruling_in.ensures.answer (c.reply_at.ensures.answer (g.L.Library.steady c.args.lib.now))

@@ -1,0 +1,4 @@
+pub mod JudgingFiles
+pub mod Keeping
+pub mod Once
+pub mod Zero

@@ -1,0 +1,3 @@
+pub mod Commands
+pub mod Valid
+pub mod Verdicts

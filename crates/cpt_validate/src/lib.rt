@@ -1,0 +1,7 @@
+//! The commands `validate-task` and `validate`.
+#![tactic(auto)]
+
+mod validating;
+mod verdicts;
+
+pub use validating::{validate, validate_task};

@@ -1,0 +1,181 @@
+use Rattle.std.proofs.Common.{◌≡◌, ◌↔◌, ◌⊎◌, inl, inr, ◌&&◌, ℕ, Bool, true, false, List, [], ◌∷◌, codes, Option, None, Some, refl, sym, ap, ◌∙◌, subst}
+use Rattle.std.specs.Prelude.{option_map, option_and_then, if◌then◌else◌}
+use Rattle.std.specs.Str.{bytes_eq}
+use Rattle.std.proofs.lemmas.Slice.Eq.{bytes_eq-Decides}
+use Rattle.cpt_words.specs.declared.words.Verb.{Verb}
+use Rattle.cpt_words.specs.declared.words.Verb.TheVariants as verbs
+use Rattle.cpt_words.specs.Laws.{AsksChecking, AsksJudging, AsksListing, AsksValidation, ReadsWords}
+use Rattle.cpt_words.specs.Words.{Asked, asked_by, asked_in, checking, is_file_name, judging, listing, three_names, two_names, validation, verb_in, verb_word}
+
+-- the word is that of the command, or another one is looked for
+chosen_by : (t : Bool) (same : Type 0) (v u : Verb) (rest : Option Verb) → (t ≡ true → same) → if◌then◌else◌ {A = Option Verb} t (Some v) rest ≡ Some u → ((v ≡ u) × same) ⊎ (rest ≡ Some u)
+chosen_by true same v u rest is h = let e : v ≡ u = cc in inl (e, is refl)
+chosen_by false same v u rest is h = inr h
+
+chosen : (w : List ℕ) (v u : Verb) (rest : Option Verb) → if◌then◌else◌ {A = Option Verb} (bytes_eq w (verb_word v)) (Some v) rest ≡ Some u → (w ≡ verb_word u) ⊎ (rest ≡ Some u)
+chosen w v u rest h = elim (chosen_by (bytes_eq w (verb_word v)) (w ≡ verb_word v) v u rest (bytes_eq-Decides w (verb_word v)).0 h) [
+  | inl k ↦ inl (k.1 ∙ ap verb_word k.0)
+  | inr k ↦ inr k
+]
+
+-- a first word is that of its command
+or_later : (w : List ℕ) (u : Verb) (rest : Option Verb) → (rest ≡ Some u → w ≡ verb_word u) → (w ≡ verb_word u) ⊎ (rest ≡ Some u) → w ≡ verb_word u
+or_later w u rest later h = elim h [ inl e ↦ e | inr k ↦ later k ]
+
+word_is : (w : List ℕ) (u : Verb) → verb_in w ≡ Some u → w ≡ verb_word u
+word_is w u h =
+    or_later w u _ (λ h. or_later w u _ (λ h. or_later w u _ (λ h. or_later w u _ (λ h. absurd (cc)) (chosen w verbs.Check u _ h)) (chosen w verbs.Ground u _ h)) (chosen w verbs.Validate u _ h)) (chosen w verbs.ValidateTask u _ h)
+
+-- names that are taken
+abbrev Pair : Type 0
+Pair = List ℕ × List ℕ
+
+abbrev Triple : Type 0
+Triple = List ℕ × List ℕ × List ℕ
+
+abbrev given : Pair → Pair
+given p = p
+
+abbrev given_three : Triple → Triple
+given_three p = p
+
+pair_is : (a b c d : List ℕ) (t : Bool) → if◌then◌else◌ {A = Option (List ℕ × List ℕ)} t (Some (a, b)) None ≡ Some (c, d) → (t ≡ true) × (a ≡ c) × (b ≡ d)
+pair_is a b c d true h =
+    let e : given (a, b) ≡ given (c, d) = cc in
+    (refl, ap (λ (p : Pair). p.0) e, ap (λ (p : Pair). p.1) e)
+pair_is a b c d false h = absurd (cc)
+
+triple_is : (a b c d e f : List ℕ) (t : Bool) → if◌then◌else◌ {A = Option (List ℕ × List ℕ × List ℕ)} t (Some (a, b, c)) None ≡ Some (d, e, f) → (t ≡ true) × (a ≡ d) × (b ≡ e) × (c ≡ f)
+triple_is a b c d e f true h =
+    let same : given_three (a, b, c) ≡ given_three (d, e, f) = cc in
+    (refl, ap (λ (p : Triple). p.0) same, ap (λ (p : Triple). p.1) same, ap (λ (p : Triple). p.2) same)
+triple_is a b c d e f false h = absurd (cc)
+
+both : (s t : Bool) → (s && t) ≡ true → (s ≡ true) × (t ≡ true)
+both true t h = (refl, h)
+both false t h = absurd (cc)
+
+pub record AreTwo (ws : List (List ℕ)) (a b : List ℕ) : Type 0 where
+  pub words_are : ws ≡ a ∷ b ∷ []
+  pub first : is_file_name a ≡ true
+  pub second : is_file_name b ≡ true
+
+two_are : (ws : List (List ℕ)) (a b : List ℕ) → two_names ws ≡ Some (a, b) → AreTwo ws a b
+two_are (x ∷ y ∷ []) a b h =
+    let k = pair_is x y a b (is_file_name x && is_file_name y) h in
+    let named = both (is_file_name x) (is_file_name y) k.0 in
+    record { words_are = cc (k.1, k.2); first = subst (λ n. is_file_name n ≡ true) k.1 named.0; second = subst (λ n. is_file_name n ≡ true) k.2 named.1 }
+two_are [] a b h = absurd (cc)
+two_are (x ∷ []) a b h = absurd (cc)
+two_are (x ∷ y ∷ z ∷ ws) a b h = absurd (cc)
+
+pub record AreThree (ws : List (List ℕ)) (a b c : List ℕ) : Type 0 where
+  pub words_are : ws ≡ a ∷ b ∷ c ∷ []
+  pub first : is_file_name a ≡ true
+  pub second : is_file_name b ≡ true
+  pub third : is_file_name c ≡ true
+
+three_are : (ws : List (List ℕ)) (a b c : List ℕ) → three_names ws ≡ Some (a, b, c) → AreThree ws a b c
+three_are (x ∷ y ∷ z ∷ []) a b c h =
+    let k = triple_is x y z a b c (is_file_name x && (is_file_name y && is_file_name z)) h in
+    let named = both (is_file_name x) (is_file_name y && is_file_name z) k.0 in
+    let more = both (is_file_name y) (is_file_name z) named.1 in
+    record {
+      words_are = cc (k.1, k.2, k.3);
+      first = subst (λ n. is_file_name n ≡ true) k.1 named.0;
+      second = subst (λ n. is_file_name n ≡ true) k.2 more.0;
+      third = subst (λ n. is_file_name n ≡ true) k.3 more.1;
+    }
+three_are [] a b c h = absurd (cc)
+three_are (x ∷ []) a b c h = absurd (cc)
+three_are (x ∷ y ∷ []) a b c h = absurd (cc)
+three_are (x ∷ y ∷ z ∷ u ∷ ws) a b c h = absurd (cc)
+
+pub two_taken : (a b : List ℕ) → is_file_name a ≡ true → is_file_name b ≡ true → two_names (a ∷ b ∷ []) ≡ Some (a, b)
+two_taken a b h k = rw h (rw k refl)
+
+pub three_taken : (a b c : List ℕ) → is_file_name a ≡ true → is_file_name b ≡ true → is_file_name c ≡ true → three_names (a ∷ b ∷ c ∷ []) ≡ Some (a, b, c)
+three_taken a b c h k l = rw h (rw k (rw l refl))
+
+-- names by their parts
+pair_of : (x : Pair) (a b : List ℕ) → x.0 ≡ a → x.1 ≡ b → x ≡ given (a, b)
+pair_of x a b e f =
+    let first : List ℕ → Pair = λ y. (y, x.1) in
+    let second : List ℕ → Pair = λ y. (a, y) in
+    ap first e ∙ ap second f
+
+triple_of : (x : Triple) (a b c : List ℕ) → x.0 ≡ a → x.1 ≡ b → x.2 ≡ c → x ≡ given_three (a, b, c)
+triple_of x a b c e f g =
+    let first : List ℕ → Triple = λ y. (y, x.1, x.2) in
+    let second : List ℕ → Triple = λ y. (a, y, x.2) in
+    let third : List ℕ → Triple = λ y. (a, b, y) in
+    ap first e ∙ ap second f ∙ ap third g
+
+-- the command that is asked for, without its names
+abbrev pub verb_of : Asked → Verb
+verb_of (validation t p) = verbs.ValidateTask
+verb_of (judging d p n) = verbs.Validate
+verb_of (listing d p) = verbs.Ground
+verb_of (checking d p c) = verbs.Check
+
+mapped : {A : Type 0} (f : A → Asked) (v : Verb) (o : Option A) (a : Asked) → ((x : A) → verb_of (f x) ≡ v) → option_map f o ≡ Some a → (x : A) × (o ≡ Some x) × (f x ≡ a) × (verb_of a ≡ v)
+mapped f v (Some x) a of h = let e : f x ≡ a = cc in (x, refl, e, sym (ap verb_of e) ∙ of x)
+mapped f v None a of h = absurd (cc)
+
+asked_verb : (v : Verb) (ws : List (List ℕ)) (a : Asked) → asked_by v ws ≡ Some a → v ≡ verb_of a
+asked_verb verbs.ValidateTask ws a h = sym (mapped (λ n. validation n.0 n.1) verbs.ValidateTask (two_names ws) a (λ x. refl) h).3
+asked_verb verbs.Validate ws a h = sym (mapped (λ n. judging n.0 n.1 n.2) verbs.Validate (three_names ws) a (λ x. refl) h).3
+asked_verb verbs.Ground ws a h = sym (mapped (λ n. listing n.0 n.1) verbs.Ground (two_names ws) a (λ x. refl) h).3
+asked_verb verbs.Check ws a h = sym (mapped (λ n. checking n.0 n.1 n.2) verbs.Check (three_names ws) a (λ x. refl) h).3
+
+-- the first word is that of the command, and the others are its names
+pub record IsCall (words : List (List ℕ)) (a : Asked) : Type 0 where
+  pub rest : List (List ℕ)
+  pub words_are : words ≡ verb_word (verb_of a) ∷ rest
+  pub asks : asked_by (verb_of a) rest ≡ Some a
+
+call_by : (w : List ℕ) (ws : List (List ℕ)) (a : Asked) (o : Option Verb) → verb_in w ≡ o → option_and_then (λ v. asked_by v ws) o ≡ Some a → IsCall (w ∷ ws) a
+call_by w ws a (Some v) e h =
+    let same = asked_verb v ws a h in
+    record { rest = ws; words_are = ap (λ x. x ∷ ws) (word_is w v e ∙ ap verb_word same); asks = subst (λ u. asked_by u ws ≡ Some a) same h }
+call_by w ws a None e h = absurd (cc)
+
+is_call : (words : List (List ℕ)) (a : Asked) → asked_in words ≡ Some a → IsCall words a
+is_call (w ∷ ws) a h = call_by w ws a (verb_in w) refl h
+is_call [] a h = absurd (cc)
+
+asks_validation : (words : List (List ℕ)) (t p : List ℕ) → asked_in words ≡ Some (validation t p) → AsksValidation words t p
+asks_validation words t p h =
+    let call = is_call words (validation t p) h in
+    let x = mapped (λ n. validation n.0 n.1) verbs.ValidateTask (two_names call.rest) (validation t p) (λ x. refl) call.asks in
+    let are = two_are call.rest t p (x.1 ∙ ap Some (pair_of x.0 t p (cc x.2) (cc x.2))) in
+    record { words_are = call.words_are ∙ ap (λ ws. codes "validate-task" ∷ ws) are.words_are; task_named = are.first; plan_named = are.second }
+
+asks_judging : (words : List (List ℕ)) (d p n : List ℕ) → asked_in words ≡ Some (judging d p n) → AsksJudging words d p n
+asks_judging words d p n h =
+    let call = is_call words (judging d p n) h in
+    let x = mapped (λ n. judging n.0 n.1 n.2) verbs.Validate (three_names call.rest) (judging d p n) (λ x. refl) call.asks in
+    let are = three_are call.rest d p n (x.1 ∙ ap Some (triple_of x.0 d p n (cc x.2) (cc x.2) (cc x.2))) in
+    record { words_are = call.words_are ∙ ap (λ ws. codes "validate" ∷ ws) are.words_are; domain_named = are.first; problem_named = are.second; plan_named = are.third }
+
+asks_listing : (words : List (List ℕ)) (d p : List ℕ) → asked_in words ≡ Some (listing d p) → AsksListing words d p
+asks_listing words d p h =
+    let call = is_call words (listing d p) h in
+    let x = mapped (λ n. listing n.0 n.1) verbs.Ground (two_names call.rest) (listing d p) (λ x. refl) call.asks in
+    let are = two_are call.rest d p (x.1 ∙ ap Some (pair_of x.0 d p (cc x.2) (cc x.2))) in
+    record { words_are = call.words_are ∙ ap (λ ws. codes "ground" ∷ ws) are.words_are; domain_named = are.first; problem_named = are.second }
+
+asks_checking : (words : List (List ℕ)) (d p c : List ℕ) → asked_in words ≡ Some (checking d p c) → AsksChecking words d p c
+asks_checking words d p c h =
+    let call = is_call words (checking d p c) h in
+    let x = mapped (λ n. checking n.0 n.1 n.2) verbs.Check (three_names call.rest) (checking d p c) (λ x. refl) call.asks in
+    let are = three_are call.rest d p c (x.1 ∙ ap Some (triple_of x.0 d p c (cc x.2) (cc x.2) (cc x.2))) in
+    record { words_are = call.words_are ∙ ap (λ ws. codes "check" ∷ ws) are.words_are; domain_named = are.first; problem_named = are.second; cert_named = are.third }
+
+pub reads_words : ReadsWords
+reads_words = record {
+  validation = λ words t p. (asks_validation words t p, λ asks. ap asked_in asks.words_are ∙ ap (option_map (λ n. validation n.0 n.1)) (two_taken t p asks.task_named asks.plan_named));
+  judging = λ words d p n. (asks_judging words d p n, λ asks. ap asked_in asks.words_are ∙ ap (option_map (λ n. judging n.0 n.1 n.2)) (three_taken d p n asks.domain_named asks.problem_named asks.plan_named));
+  listing = λ words d p. (asks_listing words d p, λ asks. ap asked_in asks.words_are ∙ ap (option_map (λ n. listing n.0 n.1)) (two_taken d p asks.domain_named asks.problem_named));
+  checking = λ words d p c. (asks_checking words d p c, λ asks. ap asked_in asks.words_are ∙ ap (option_map (λ n. checking n.0 n.1 n.2)) (three_taken d p c asks.domain_named asks.problem_named asks.cert_named));
+}

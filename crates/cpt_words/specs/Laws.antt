@@ -1,0 +1,39 @@
+use Rattle.std.specs.Prelude.{◌≡◌, ◌↔◌, ℕ, true, List, [], ◌∷◌, codes, None, Some}
+use Rattle.cpt_words.specs.Words.{asked_in, checking, is_file_name, judging, listing, validation}
+
+-- the words ask for no command
+abbrev pub IsUsage : List (List ℕ) → Type 0
+IsUsage words = asked_in words ≡ None
+
+-- the words ask to judge the plan of the second name over the task of the first
+pub record AsksValidation (words : List (List ℕ)) (task_name plan_name : List ℕ) : Type 0 where
+  pub words_are : words ≡ codes "validate-task" ∷ task_name ∷ plan_name ∷ []
+  pub task_named : is_file_name task_name ≡ true
+  pub plan_named : is_file_name plan_name ≡ true
+
+-- the words ask to judge the plan of the third name over the domain and the problem of the first two
+pub record AsksJudging (words : List (List ℕ)) (domain_name problem_name plan_name : List ℕ) : Type 0 where
+  pub words_are : words ≡ codes "validate" ∷ domain_name ∷ problem_name ∷ plan_name ∷ []
+  pub domain_named : is_file_name domain_name ≡ true
+  pub problem_named : is_file_name problem_name ≡ true
+  pub plan_named : is_file_name plan_name ≡ true
+
+-- the words ask for the kept task of the domain and the problem of these names
+pub record AsksListing (words : List (List ℕ)) (domain_name problem_name : List ℕ) : Type 0 where
+  pub words_are : words ≡ codes "ground" ∷ domain_name ∷ problem_name ∷ []
+  pub domain_named : is_file_name domain_name ≡ true
+  pub problem_named : is_file_name problem_name ≡ true
+
+-- the words ask to check the certificate of the third name over the domain and the problem of the first two
+pub record AsksChecking (words : List (List ℕ)) (domain_name problem_name cert_name : List ℕ) : Type 0 where
+  pub words_are : words ≡ codes "check" ∷ domain_name ∷ problem_name ∷ cert_name ∷ []
+  pub domain_named : is_file_name domain_name ≡ true
+  pub problem_named : is_file_name problem_name ≡ true
+  pub cert_named : is_file_name cert_name ≡ true
+
+-- which words are read as which command
+pub record ReadsWords : Type 0 where
+  pub validation : (words : List (List ℕ)) (t p : List ℕ) → (asked_in words ≡ Some (validation t p)) ↔ AsksValidation words t p
+  pub judging : (words : List (List ℕ)) (d p n : List ℕ) → (asked_in words ≡ Some (judging d p n)) ↔ AsksJudging words d p n
+  pub listing : (words : List (List ℕ)) (d p : List ℕ) → (asked_in words ≡ Some (listing d p)) ↔ AsksListing words d p
+  pub checking : (words : List (List ℕ)) (d p c : List ℕ) → (asked_in words ≡ Some (checking d p c)) ↔ AsksChecking words d p c

@@ -1,0 +1,62 @@
+use Rattle.std.specs.Prelude.{ℕ, ◌==◌, ◌&&◌, not, Bool, true, false, if◌then◌else◌, List, [], ◌∷◌, codes, Option, None, Some, option_map, option_and_then}
+use Rattle.std.specs.Str.{bytes_eq}
+use Rattle.cpt_words.specs.declared.words.Command.{Command}
+use Rattle.cpt_words.specs.declared.words.Command.TheVariants.{ValidateTask, Validate, Ground, Check}
+use Rattle.cpt_words.specs.declared.words.Verb.{Verb}
+use Rattle.cpt_words.specs.declared.words.Verb.TheVariants as verbs
+
+-- a word that can name a file: not empty, and it does not begin with a dash
+abbrev pub is_file_name : List ℕ → Bool
+is_file_name [] = false
+is_file_name (b ∷ bs) = not (b == 45)
+
+-- a command with the names of its files
+pub data Asked : Type 0 where
+  validation : (task_name plan_name : List ℕ) → Asked
+  judging : (domain_name problem_name plan_name : List ℕ) → Asked
+  listing : (domain_name problem_name : List ℕ) → Asked
+  checking : (domain_name problem_name cert_name : List ℕ) → Asked
+
+-- a command of the code
+abbrev pub asked_of : Command → Asked
+asked_of (ValidateTask task_name plan_name) = validation task_name.now plan_name.now
+asked_of (Validate domain_name problem_name plan_name) = judging domain_name.now problem_name.now plan_name.now
+asked_of (Ground domain_name problem_name) = listing domain_name.now problem_name.now
+asked_of (Check domain_name problem_name cert_name) = checking domain_name.now problem_name.now cert_name.now
+
+-- the first word of a command
+abbrev pub verb_word : Verb → List ℕ
+verb_word verbs.ValidateTask = codes "validate-task"
+verb_word verbs.Validate = codes "validate"
+verb_word verbs.Ground = codes "ground"
+verb_word verbs.Check = codes "check"
+
+-- the command whose first word this is
+abbrev pub verb_in : List ℕ → Option Verb
+verb_in word =
+    if bytes_eq word (verb_word verbs.ValidateTask) then Some verbs.ValidateTask
+    else if bytes_eq word (verb_word verbs.Validate) then Some verbs.Validate
+    else if bytes_eq word (verb_word verbs.Ground) then Some verbs.Ground
+    else if bytes_eq word (verb_word verbs.Check) then Some verbs.Check
+    else None
+
+-- two names of files and nothing else, and three
+abbrev pub two_names : List (List ℕ) → Option (List ℕ × List ℕ)
+two_names (a ∷ b ∷ []) = if is_file_name a && is_file_name b then Some (a, b) else None
+two_names ws = None
+
+abbrev pub three_names : List (List ℕ) → Option (List ℕ × List ℕ × List ℕ)
+three_names (a ∷ b ∷ c ∷ []) = if is_file_name a && (is_file_name b && is_file_name c) then Some (a, b, c) else None
+three_names ws = None
+
+-- what the words behind the first one ask of a command
+abbrev pub asked_by : Verb → List (List ℕ) → Option Asked
+asked_by verbs.ValidateTask ws = option_map (λ n. validation n.0 n.1) (two_names ws)
+asked_by verbs.Validate ws = option_map (λ n. judging n.0 n.1 n.2) (three_names ws)
+asked_by verbs.Ground ws = option_map (λ n. listing n.0 n.1) (two_names ws)
+asked_by verbs.Check ws = option_map (λ n. checking n.0 n.1 n.2) (three_names ws)
+
+-- What the words ask for. Where it is nothing, they are no words of a command.
+abbrev pub asked_in : List (List ℕ) → Option Asked
+asked_in [] = None
+asked_in (w ∷ ws) = option_and_then (λ verb. asked_by verb ws) (verb_in w)

@@ -1,0 +1,126 @@
+//! What the words ask for.
+
+ghost use Rattle.std.specs.Prelude.{◌≡◌, map, option_map, string_bytes};
+ghost use Rattle.std.specs.Str.{bytes_eq};
+ghost use Rattle.cpt_words.specs.Words.{asked_by, asked_in, asked_of, is_file_name, three_names, two_names, verb_in};
+
+/// What the words ask for, with the names of its files.
+#[derive(Clone, Copy)]
+pub enum Command<'a> {
+    /// To judge the plan of the second name over the task of the first.
+    ValidateTask(&'a str, &'a str),
+    /// To judge the plan of the third name over the domain and the problem of the first two.
+    Validate(&'a str, &'a str, &'a str),
+    /// To list the kept task of the domain and the problem.
+    Ground(&'a str, &'a str),
+    /// To check the certificate of the third name over the domain and the problem of the first two.
+    Check(&'a str, &'a str, &'a str),
+}
+
+/// A command without the names of its files.
+#[derive(Clone, Copy)]
+pub enum Verb {
+    ValidateTask,
+    Validate,
+    Ground,
+    Check,
+}
+
+/// Whether the word is a name and no option.
+fn is_name(word: &str) -> bool
+    ensures { result ≡ is_file_name word.now }
+{
+    match word.as_bytes() {
+        [] => false,
+        [first, ..] => *first != b'-',
+    }
+}
+
+fn is_word(word: &str, wanted: &str) -> bool
+    ensures { result ≡ bytes_eq word.now wanted.now }
+{
+    word == wanted
+}
+
+/// The command whose first word this is.
+fn verb_in(word: &str) -> Option<Verb>
+    ensures { result ≡ verb_in word.now }
+{
+    if is_word(word, "validate-task") {
+        Some(Verb::ValidateTask)
+    } else if is_word(word, "validate") {
+        Some(Verb::Validate)
+    } else if is_word(word, "ground") {
+        Some(Verb::Ground)
+    } else if is_word(word, "check") {
+        Some(Verb::Check)
+    } else {
+        None
+    }
+}
+
+/// Two names of files and nothing else.
+fn two_names(words: &[String]) -> Option<(&str, &str)>
+    ensures { option_map (λ n. (n.0.now, n.1.now)) result ≡ two_names (map string_bytes words.now) }
+{
+    let [first, second] = words else {
+        return None;
+    };
+    let first = first.as_str();
+    let second = second.as_str();
+    if is_name(first) && is_name(second) {
+        return Some((first, second));
+    }
+    None
+}
+
+/// Three names of files and nothing else.
+fn three_names(words: &[String]) -> Option<(&str, &str, &str)>
+    ensures { option_map (λ n. (n.0.now, n.1.now, n.2.now)) result ≡ three_names (map string_bytes words.now) }
+{
+    let [first, second, third] = words else {
+        return None;
+    };
+    let first = first.as_str();
+    let second = second.as_str();
+    let third = third.as_str();
+    if is_name(first) && is_name(second) && is_name(third) {
+        return Some((first, second, third));
+    }
+    None
+}
+
+/// What the words behind the first one ask of the command.
+fn command_by(verb: Verb, words: &[String]) -> Option<Command<'_>>
+    ensures { option_map asked_of result ≡ asked_by verb (map string_bytes words.now) }
+{
+    match verb {
+        Verb::ValidateTask => {
+            let (task, plan) = two_names(words)?;
+            Some(Command::ValidateTask(task, plan))
+        }
+        Verb::Validate => {
+            let (domain, problem, plan) = three_names(words)?;
+            Some(Command::Validate(domain, problem, plan))
+        }
+        Verb::Ground => {
+            let (domain, problem) = two_names(words)?;
+            Some(Command::Ground(domain, problem))
+        }
+        Verb::Check => {
+            let (domain, problem, cert) = three_names(words)?;
+            Some(Command::Check(domain, problem, cert))
+        }
+    }
+}
+
+/// What the words ask for; `None` where they are no words of a command.
+pub fn command_in(words: &[String]) -> Option<Command<'_>>
+    ensures { option_map asked_of result ≡ asked_in (map string_bytes words.now) }
+{
+    let [first, rest @ ..] = words else {
+        return None;
+    };
+    let verb = verb_in(first.as_str())?;
+    command_by(verb, rest)
+}
