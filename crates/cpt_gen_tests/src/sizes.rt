@@ -48,8 +48,16 @@ fn sizes_of_kept_tasks(rt: HostRuntime) -> Result<(), Fail> {
     for n in 1..11u32 {
         let kept = kept_of(&rt, rt.alloc(), n)?;
         let size = n as usize;
-        assert_eq!(rt; kept.task.atoms().len(), size * size + 4 * size + 1, "atoms of {n}");
-        assert_eq!(rt; kept.task.actions().len(), 2 * size * (size + 1) + size, "actions of {n}");
+        assert_eq!(rt;
+            kept.task.atoms().len(),
+            size * size + 4 * size + 1,
+            "atoms of {n}"
+        );
+        assert_eq!(rt;
+            kept.task.actions().len(),
+            2 * size * (size + 1) + size,
+            "actions of {n}"
+        );
     }
     Ok(())
 }
