@@ -10,8 +10,6 @@ mod laws;
 mod narrowing;
 mod rooting;
 mod rules;
-#[cfg(test)]
-mod tests;
 
 pub use applying::apply;
 pub use copies::copy_sheet;

@@ -42,6 +42,17 @@ const NEVER_AGAIN: Scene = Scene {
     ..WORKSHOP
 };
 
+/// Action 0 adds the key that action 1 needs to add the goal.
+const KEY_FIRST: Scene = Scene {
+    atoms: 2,
+    actions: &[(1, &[], &[0], &[]), (2, &[0], &[1], &[])],
+    init: &[],
+    goal: &[1],
+    never: &[],
+    bound: 2,
+    edits: &[],
+};
+
 /// Action 1 needs, deletes and adds atom 0.
 const RETURNER: Scene = Scene {
     atoms: 2,
@@ -121,10 +132,16 @@ const NEVER_AFTER_ADDERS: &[Row] = &[
     (&[], R4(2, 0, At(4_000_000_000_000_000)), false),
 ];
 
+const END_AFTER_ADDERS: &[Row] = &[
+    (&[], R4(1, 1, At(2)), true),
+    (&[], R4(1, 1, At(3)), false),
+];
+
 #[test]
 fn a_token_begins_after_who_adds_for_it(rt: HostRuntime) -> Result<(), Fail> {
     expect_steps(&rt, rt.alloc(), &WORKSHOP, AFTER_ADDERS)?;
-    expect_steps(&rt, rt.alloc(), &NEVER_AGAIN, NEVER_AFTER_ADDERS)
+    expect_steps(&rt, rt.alloc(), &NEVER_AGAIN, NEVER_AFTER_ADDERS)?;
+    expect_steps(&rt, rt.alloc(), &KEY_FIRST, END_AFTER_ADDERS)
 }
 
 const OUTSIDE_AFTER_ADDERS: &[Row] = &[
