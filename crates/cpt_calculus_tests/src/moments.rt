@@ -132,10 +132,7 @@ const NEVER_AFTER_ADDERS: &[Row] = &[
     (&[], R4(2, 0, At(4_000_000_000_000_000)), false),
 ];
 
-const END_AFTER_ADDERS: &[Row] = &[
-    (&[], R4(1, 1, At(2)), true),
-    (&[], R4(1, 1, At(3)), false),
-];
+const END_AFTER_ADDERS: &[Row] = &[(&[], R4(1, 1, At(2)), true), (&[], R4(1, 1, At(3)), false)];
 
 #[test]
 fn a_token_begins_after_who_adds_for_it(rt: HostRuntime) -> Result<(), Fail> {
