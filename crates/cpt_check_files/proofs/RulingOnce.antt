@@ -3,10 +3,9 @@ use Rattle.cpt_io.specs.Meaning.{Files}
 use Rattle.cpt_task.specs.Shape.{TaskShape, InBounds}
 use Rattle.cpt_cert_form.specs.declared.forms.Claim.{Claim}
 use Rattle.cpt_cert_form.specs.declared.forms.Version.{Version}
-use Rattle.cpt_cert_read.proofs.Meaning.{one_meaning}
+use Rattle.cpt_cert_read.proofs.Splits.{lines_once}
 use Rattle.cpt_verdict.specs.declared.faults.Why.{Why}
-use Rattle.cpt_verdict.proofs.Feedless.{feedless}
-use Rattle.cpt_verdict.proofs.OneText.{lines_once, no_fault, one_claim, one_fault}
+use Rattle.cpt_verdict.proofs.OneText.{no_fault, one_claim, one_fault}
 use Rattle.cpt_sections.specs.Stages.{version_in}
 use Rattle.cpt_check.specs.declared.judged.Judged.{Judged}
 use Rattle.cpt_check.specs.declared.judged.Ruling.{Ruling}
@@ -21,18 +20,18 @@ judged version ruling = record { version = version; ruling = ruling }
 
 -- a text has one version
 version_once : (text : List ℕ) (v w : Option Version) → IsVersionOf text v → IsVersionOf text w → v ≡ w
-version_once text v w h k = h.2 ∙ ap version_in (lines_once one_meaning feedless text h.0 k.0 h.1 k.1) ∙ sym k.2
+version_once text v w h k = h.2 ∙ ap version_in (lines_once text h.0 k.0 h.1 k.1) ∙ sym k.2
 
 claims_once : (t : TaskShape) → InBounds t → (text : List ℕ) (v w : Option Version) (a b : Claim) → IsAccepted t cert_limit text v a → IsAccepted t cert_limit text w b → judged v (Accepted a) ≡ judged w (Accepted b)
 claims_once t inside text v w a b h k =
-    let e = one_claim one_meaning feedless t text h.named k.named a b inside h.accepts k.accepts in
+    let e = one_claim t text h.named k.named a b inside h.accepts k.accepts in
     let version : Option Version → Judged = λ x. judged x (Accepted a) in
     let claim : Claim → Judged = λ c. judged w (Accepted c) in
     ap version (h.version_is ∙ ap Some e.0 ∙ sym k.version_is) ∙ ap claim e.1
 
 faults_once : (t : TaskShape) (text : List ℕ) (v w : Option Version) (line also : ℕ) (why other : Why) → IsRejected t cert_limit text v line why → IsRejected t cert_limit text w also other → judged v (Rejected line why) ≡ judged w (Rejected also other)
 faults_once t text v w line also why other h k =
-    let e = one_fault one_meaning feedless t text line also why other h.first k.first in
+    let e = one_fault t text line also why other h.first k.first in
     let version : Option Version → Judged = λ x. judged x (Rejected line why) in
     let place : ℕ → Judged = λ n. judged w (Rejected n why) in
     let cause : Why → Judged = λ y. judged w (Rejected also y) in
@@ -40,7 +39,7 @@ faults_once t text v w line also why other h k =
 
 -- a certificate has no fault
 never_both : (t : TaskShape) → InBounds t → (text : List ℕ) (v w : Option Version) (claim : Claim) (line : ℕ) (why : Why) → IsAccepted t cert_limit text v claim → IsRejected t cert_limit text w line why → ⊥
-never_both t inside text v w claim line why h k = no_fault one_meaning feedless t text h.named claim line why inside h.accepts k.first
+never_both t inside text v w claim line why h k = no_fault t text h.named claim line why inside (omega (arith, h.size)) h.accepts k.first
 
 ruling_once : (t : TaskShape) → InBounds t → (text : List ℕ) (v w : Option Version) (a b : Ruling) → RulesOf t cert_limit text v a → RulesOf t cert_limit text w b → judged v a ≡ judged w b
 ruling_once t inside text v w (Accepted a) (Accepted b) h k = claims_once t inside text v w a b h k

@@ -29,6 +29,7 @@ fn last_start(starts: &[usize]) -> usize
 }
 
 /// A store that is closed under rules after each decision.
+#[derive(Drop)]
 pub struct Engine<'a, R: Rule + Copy> {
     alloc: Global,
     task: &'a Task,
