@@ -8,8 +8,6 @@ mod library;
 mod memory;
 mod reading;
 mod sink;
-#[cfg(test)]
-mod tests;
 
 pub use adapters::{FileLibrary, StdSink};
 pub use library::{Failed, Library, PrintError, ReadError, Sink};

@@ -14,6 +14,3 @@ pub use laws::{
 pub use printing::print_plan;
 pub use reading::{PlanText, PlanTextError, read_plan};
 pub use roster::{Found, Roster};
-
-#[cfg(test)]
-mod tests;

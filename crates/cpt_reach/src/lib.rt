@@ -10,6 +10,3 @@ mod users;
 
 pub use laws::{kept_part_keeps_plans, limits_are_exact, one_pruning, reached_is_least};
 pub use pruning::{PruneError, Pruned, prune};
-
-#[cfg(test)]
-mod tests;

@@ -14,6 +14,3 @@ pub use error::TaskTextError;
 pub use laws::first_faulty_line;
 pub use printing::{print_task, task_text};
 pub use reading::read_task;
-
-#[cfg(test)]
-mod tests;

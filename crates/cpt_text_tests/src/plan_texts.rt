@@ -4,8 +4,10 @@ ghost use Rattle.std.specs.Prelude.{◌≡◌, ◌∷◌, [], IfOk, if◌then◌
 ghost use Rattle.std.specs.Str.{bytes_eq};
 ghost use Rattle.cpt_plan_text.specs.declared.roster.Found.TheVariants.{Unknown, Unreachable};
 
-use crate::{Found, PlanText, PlanTextError, Roster, print_plan, read_plan, tasks_know_actions};
 use cpt_io::MemSink;
+use cpt_plan_text::{
+    Found, PlanText, PlanTextError, Roster, print_plan, read_plan, tasks_know_actions,
+};
 use cpt_task::{Action, Ids, List, Memory, Name, Occ, Task};
 use std::alloc::{AllocError, Global};
 use std::test::Fail;

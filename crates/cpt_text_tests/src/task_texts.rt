@@ -1,8 +1,8 @@
 //! The spelling of tasks, and which faults are answered.
 
-use crate::{TaskTextError, print_task, read_task};
 use cpt_io::MemSink;
 use cpt_task::{Limit, Task};
+use cpt_task_text::{TaskTextError, print_task, read_task};
 use std::alloc::{AllocError, Global};
 use std::test::Fail;
 

@@ -2,7 +2,7 @@
 
 ghost use Rattle.std.specs.Prelude.{◌≡◌, ◌≤◌, IfOk};
 
-use crate::{FileLibrary, Library, MemLibrary, MemSink, ReadError, Sink, StdSink, read_all};
+use cpt_io::{FileLibrary, Library, MemLibrary, MemSink, ReadError, Sink, StdSink, read_all};
 use cpt_task::{List, Name};
 use std::alloc::{AllocError, Global};
 use std::fs;

@@ -2,7 +2,7 @@
 
 ghost use Rattle.std.specs.Prelude.{◌≡◌, ◌<◌, ◌^◌, IfOk, vec_len};
 
-use crate::{Pruned, prune};
+use cpt_reach::{Pruned, prune};
 use cpt_task::{Action, Ids, List, Memory, Task};
 use std::alloc::Global;
 use std::test::Fail;
