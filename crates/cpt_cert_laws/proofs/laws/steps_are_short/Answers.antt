@@ -1,0 +1,5 @@
+use Rattle.cpt_cert_laws.proofs.TreeForms as lemmas
+use Rattle.cpt_cert_laws.proofs.laws.steps_are_short.Goals as goal
+
+pub returns : goal.returns
+returns c = lemmas.steps_are_short

@@ -1,0 +1,5 @@
+use Rattle.cpt_cert_laws.proofs.TreeForms as lemmas
+use Rattle.cpt_cert_laws.proofs.laws.trees_are_nodes.Goals as goal
+
+pub returns : goal.returns
+returns c = lemmas.trees_are_nodes

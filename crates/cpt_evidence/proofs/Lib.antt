@@ -1,0 +1,5 @@
+pub mod TreeTexts
+pub mod Depths
+pub mod Refutations
+pub mod EvidenceLemmas
+pub mod SameTexts
