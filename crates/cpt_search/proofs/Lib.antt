@@ -1,3 +1,4 @@
 pub mod FrontierLemmas
 pub mod TraversalLemmas
 pub mod BoundLemmas
+pub mod EngineLemmas

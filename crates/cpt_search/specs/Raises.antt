@@ -13,6 +13,12 @@ Raises T Runs n first most ds (Refuted tree) = Concludes T n first most exhauste
 Raises T Runs n first most ds (Spent refuted full partial) =
     Concludes T n first most (spent (suc refuted)) × IsTextBelow T Runs n first (suc refuted) full.lines × IsPartialText (T (suc refuted)) (Runs (suc refuted)) n partial.lines
 
+-- the space stands at the bound of the leaf that was found
+abbrev pub StandsAt : ℕ → Raised → Type 0
+StandsAt at (Found b below) = at ≡ b
+StandsAt at (Refuted tree) = Unit {0}
+StandsAt at (Spent refuted full partial) = Unit {0}
+
 -- what was used more is no more than the nodes that are visited
 abbrev pub IsWithinVisited : (ℕ → SearchTree) → ℕ → ℕ → ℕ → ℕ → ℕ → Type 0
 IsWithinVisited T n first most before now = (b : ℕ) × (sum : ℕ) × (b ≤ suc most) × AreVisited T n first b sum × (now ≤ before + sum)

@@ -2,7 +2,7 @@
 
 ghost use Rattle.std.specs.Prelude.{◌≡◌, ℕ, ◌+◌, ◌-◌, ◌<◌, ◌≤◌, ◌^◌, List, [], ◌∷◌, IfOk};
 ghost use Rattle.cpt_sheet.specs.declared.data.NodeLine.TheVariants.{Close};
-ghost use Rattle.cpt_search.specs.Raises.{Raises, IsWithinVisited};
+ghost use Rattle.cpt_search.specs.Raises.{Raises, IsWithinVisited, StandsAt};
 
 use crate::space::SearchSpace;
 use crate::walk::{Traversal, traverse};
@@ -55,6 +55,7 @@ pub fn raise_bound<S: SearchSpace>(
     requires used { S.used space.old ≤ 2 ^ 63 }
     ensures problem { S.problem space.new ≡ S.problem space.old }
     ensures used { IsWithinVisited (S.search_tree (S.problem space.old)) nodes first most (S.used space.old) (S.used space.new) }
+    ensures bound { IfOk result (StandsAt (S.at_bound space.new)) }
     ensures raised { IfOk result (Raises (S.search_tree (S.problem space.old)) (S.node_runs (S.problem space.old)) nodes first most (S.decisions space.new)) }
 {
     let mut below = close_alone(alloc)?;

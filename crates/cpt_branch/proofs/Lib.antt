@@ -1,0 +1,5 @@
+pub mod ChoosingLemmas
+pub mod FirstLemmas
+pub mod LeafLemmas
+pub mod LeafOrder
+pub mod ListLemmas
