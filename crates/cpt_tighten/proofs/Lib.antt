@@ -1,0 +1,5 @@
+pub mod Adding
+pub mod Latest
+pub mod Places
+pub mod Summing
+pub mod Turning

@@ -1,0 +1,4 @@
+pub mod Chains
+pub mod Laws
+pub mod Needs
+pub mod Schedules

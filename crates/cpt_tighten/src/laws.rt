@@ -1,0 +1,18 @@
+//! Laws of schedules: their contracts are what they say, and their bodies are empty.
+
+ghost use Rattle.cpt_tighten.specs.Laws.{ChainsAddUp, EarliestEndsFirst, SchedulesAreValid};
+
+/// Every schedule of a valid plan that keeps its needs is valid.
+pub fn schedules_are_valid()
+    ensures { SchedulesAreValid }
+{}
+
+/// No schedule that keeps the needs has a smaller makespan than the earliest one.
+pub fn earliest_ends_first()
+    ensures { EarliestEndsFirst }
+{}
+
+/// The durations along the chain add up to the makespan.
+pub fn chains_add_up()
+    ensures { ChainsAddUp }
+{}
