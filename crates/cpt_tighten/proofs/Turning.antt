@@ -1,4 +1,4 @@
-use Rattle.std.proofs.Common.{◌≡◌, ℕ, zero, suc, ◌<◌, ◌≤◌, ◌⊎◌, inl, inr, List, [], ◌∷◌, length, get_or, sym, ap, subst, arith, All, Contains}
+use Rattle.std.proofs.Common.{Result, Ok, Err, IfOk, ◌≡◌, ℕ, zero, suc, ◌<◌, ◌≤◌, ◌⊎◌, inl, inr, List, [], ◌∷◌, length, get_or, sym, ap, subst, arith, All, Contains}
 use Rattle.std.proofs.lemmas.List.Elements.{Contains-get_or}
 use Rattle.cpt_task.specs.declared.task.Action.{Action}
 use Rattle.cpt_task.specs.declared.plan.Occ.{Occ}
@@ -9,7 +9,8 @@ use Rattle.cpt_task.proofs.Meeting.{none_clash}
 use Rattle.std.proofs.lemmas.List.Elements.{All-contains}
 use Rattle.cpt_tighten.specs.Laws.{SchedulesAreValid}
 use Rattle.cpt_tighten.specs.Needs.{IsLastAdder}
-use Rattle.cpt_tighten.specs.Schedules.{IsSchedule, KeepsNeeds}
+use Rattle.cpt_tighten.specs.declared.tightening.Tight.{Tight}
+use Rattle.cpt_tighten.specs.Schedules.{IsEarliest, IsSchedule, KeepsNeeds}
 use Rattle.cpt_tighten.proofs.Adding.{added_since, holds_since, holds_still, initial}
 use Rattle.cpt_tighten.proofs.Latest.{at_most, compared, last_adder}
 use Rattle.cpt_tighten.proofs.Places.{lasts, none, read_at, same_action}
@@ -167,3 +168,8 @@ valid_schedule t plan other s =
 -- every schedule of a valid plan that keeps its needs is valid
 pub schedules_are_valid : SchedulesAreValid
 schedules_are_valid t plan other b valid schedule keeps = valid_schedule t plan other (record { bounds = b; valid = valid; schedule = schedule; keeps = keeps })
+
+-- what is answered at the earliest is valid
+pub earliest_is_valid : {E : Type 0} (t : TaskShape) (plan : List Occ) (r : Result Tight E) → InBounds t → IsValid t plan → IfOk r (λ x. IsEarliest t plan x.plan) → IfOk r (λ x. IsValid t x.plan)
+earliest_is_valid t plan (Ok x) bounds valid h = schedules_are_valid t plan x.plan bounds valid h.schedule h.keeps
+earliest_is_valid t plan (Err e) bounds valid h = tt

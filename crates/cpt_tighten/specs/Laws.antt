@@ -1,7 +1,7 @@
 use Rattle.std.specs.Prelude.{◌≡◌, ℕ, ◌≤◌, List}
 use Rattle.cpt_task.specs.declared.plan.Occ.{Occ}
 use Rattle.cpt_task.specs.Shape.{TaskShape, InBounds}
-use Rattle.cpt_task.specs.Timeline.{IsValid, makespan}
+use Rattle.cpt_task.specs.Timeline.{IsPlan, IsValid, makespan}
 use Rattle.cpt_tighten.specs.Chains.{IsChain, total_duration}
 use Rattle.cpt_tighten.specs.Schedules.{IsEarliest, IsSchedule, KeepsNeeds}
 
@@ -16,3 +16,11 @@ EarliestEndsFirst = (t : TaskShape) (plan tight other : List Occ) → IsEarliest
 -- the durations along the chain add up to the makespan
 abbrev pub ChainsAddUp : Type 0
 ChainsAddUp = (t : TaskShape) (plan tight : List Occ) (chain : List ℕ) → IsSchedule plan tight → IsChain t plan tight chain → total_duration t plan chain ≡ makespan t tight
+
+-- a plan has one earliest schedule
+abbrev pub OneEarliest : Type 0
+OneEarliest = (t : TaskShape) (plan first second : List Occ) → IsEarliest t plan first → IsEarliest t plan second → first ≡ second
+
+-- a schedule has one chain
+abbrev pub OneChain : Type 0
+OneChain = (t : TaskShape) (plan tight : List Occ) (first second : List ℕ) → InBounds t → IsPlan t plan → IsSchedule plan tight → IsChain t plan tight first → IsChain t plan tight second → first ≡ second
