@@ -1,0 +1,12 @@
+pub mod Adding
+pub mod Bests
+pub mod Ending
+pub mod Latest
+pub mod Only
+pub mod Passing
+pub mod Places
+pub mod Reading
+pub mod Summing
+pub mod Timing
+pub mod Turning
+pub mod Waiting
