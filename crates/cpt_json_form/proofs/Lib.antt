@@ -1,0 +1,5 @@
+pub mod Counting
+pub mod Once
+pub mod Plain
+pub mod Same
+pub mod Texts
