@@ -5,6 +5,7 @@ use Rattle.std.proofs.lemmas.List.{map-append, length-map}
 use Rattle.cpt_trail.specs.Trails.{Mark, TrailShape, IsBackTo, entries_of}
 use Rattle.cpt_layout.specs.Places.{Frame, cut}
 use Rattle.cpt_layout.specs.Numbers.{base, cells_in}
+use Rattle.cpt_layout.specs.Shapes.{LayoutShape}
 use Rattle.cpt_layout.specs.Sheets.{seen}
 use Rattle.cpt_layout.proofs.Laying.{base_cut, length_cut}
 use Rattle.cpt_cells.specs.Shapes.{SheetMark, IsBackAt}
@@ -49,8 +50,9 @@ back_held t u s n m h b =
       room = room_rest t.entry_room u.entry_room u.marks (b.mark ∷ b.newer) (b.entry_room ∙ ap (λ (ms : List Mark). t.entry_room + entries_of ms) b.marks) (subst (λ (ms : List Mark). HasRoom t.entry_room ms) b.marks h.room);
     }
 
-pub back_seen : (t u : TrailShape) (s : Frame) (n m : ℕ) → IsHeldBy t s m → IsBackTo n t u → IsBackAt n (seen_by t s) (seen_by u (cut s (count_at s u.cells)))
-back_seen t u s n m h b =
+pub back_seen : (t u : TrailShape) (l r : LayoutShape) (n m : ℕ) → IsHeldBy t l.frame m → IsBackTo n t u → r.frame ≡ cut l.frame (count_at l.frame u.cells) → IsBackAt n (seen_by t l) (seen_by u r)
+back_seen t u l r n m h b f =
+    let s : Frame = l.frame in
     let k : ℕ = count_at s u.cells in
     let w = is_before t u s n m h b in
     record {
@@ -58,7 +60,7 @@ back_seen t u s n m h b =
       newer = map (mark_of s) b.newer;
       marks =
           ap (λ (ms : List Mark). map (mark_of s) ms) b.marks ∙ (map-append (mark_of s) u.marks (b.mark ∷ b.newer)
-          ∙ ap (λ (ms : List SheetMark). ms ++ mark_of s b.mark ∷ map (mark_of s) b.newer) (sym (marks_cut s 0 u.marks k w.chain)));
-      older = length-map u.marks (mark_of (cut s k)) ∙ b.older;
-      sheet = ap (λ (cs : List ℕ). seen (cut s (count_at s cs)) cs) b.cells;
+          ∙ ap (λ (ms : List SheetMark). ms ++ mark_of s b.mark ∷ map (mark_of s) b.newer) (sym (ap (λ (q : Frame). map (mark_of q) u.marks) f ∙ marks_cut s 0 u.marks k w.chain)));
+      older = length-map u.marks (mark_of r.frame) ∙ b.older;
+      sheet = ap (λ (q : Frame). seen q u.cells) f ∙ ap (λ (cs : List ℕ). seen (cut s (count_at s cs)) cs) b.cells;
     }

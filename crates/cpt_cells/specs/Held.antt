@@ -3,7 +3,7 @@ use Rattle.cpt_cells.specs.Shapes.{CellsShape}
 use Rattle.cpt_cells.specs.declared.cells.Cells.TheInside.{Inside}
 
 abbrev pub shape_of : Inside → CellsShape
-shape_of t = seen_by t.trail t.layout.frame
+shape_of t = seen_by t.trail t.layout
 
 abbrev pub IsHeld : Inside → Type 0
 IsHeld t = IsHeldBy t.trail t.layout.frame t.end

@@ -4,6 +4,7 @@ use Rattle.cpt_task.specs.Timeline.{is_in}
 use Rattle.cpt_trail.specs.Trails.{Mark, TrailShape, entries_of}
 use Rattle.cpt_layout.specs.Places.{Frame, cut, adders_at, NoTwice}
 use Rattle.cpt_layout.specs.Numbers.{cells_in}
+use Rattle.cpt_layout.specs.Shapes.{LayoutShape}
 use Rattle.cpt_layout.specs.Sheets.{seen}
 use Rattle.cpt_cells.specs.Shapes.{SheetMark, CellsShape}
 
@@ -33,15 +34,18 @@ abbrev pub HasRoom : ℕ → List Mark → Type 0
 HasRoom r [] = Unit {0}
 HasRoom r (m ∷ ms) = (length m.cells ≤ r + entries_of (m ∷ ms)) × HasRoom r ms
 
--- how a trail is seen whose cells these are
-abbrev pub seen_by : TrailShape → Frame → CellsShape
-seen_by t s = record {
-  frame = s;
-  sheet = seen s t.cells;
-  marks = map (mark_of s) t.marks;
+-- how a trail is seen whose cells have this layout
+abbrev pub seen_by : TrailShape → LayoutShape → CellsShape
+seen_by t l = record {
+  frame = l.frame;
+  sheet = seen l.frame t.cells;
+  marks = map (mark_of l.frame) t.marks;
   cells = length t.cells;
+  cell_room = t.cell_room;
   entry_room = t.entry_room;
   mark_room = t.mark_room;
+  token_room = l.token_room;
+  need_room = l.need_room;
 }
 
 -- each place has its cell, one cell more has the number of tokens, and there is no other cell, nor was there at a mark;

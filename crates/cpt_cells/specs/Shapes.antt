@@ -9,14 +9,17 @@ pub record SheetMark : Type 0 where
   pub written : ℕ
 
 -- what is seen of cells that hold a sheet: what the cells do not say, the sheet, its marks from the oldest to the newest,
--- how many cells there are, and the spare room for entries and for marks
+
 pub record CellsShape : Type 0 where
   pub frame : Frame
   pub sheet : Sheet
   pub marks : List SheetMark
   pub cells : ℕ
+  pub cell_room : ℕ
   pub entry_room : ℕ
   pub mark_room : ℕ
+  pub token_room : ℕ
+  pub need_room : ℕ
 
 -- the marks stay, but for how many cells were written since the newest
 pub data KeepsMarks (old new : List SheetMark) : Type 0 where
@@ -41,3 +44,9 @@ pub record IsCellOf (s : Frame) (n : ℕ) : Type 0 where
   pub place : Place
   pub there : IsThere s place
   pub cell : n ≡ cell_of s place
+
+-- there is as much spare room for a token as before
+pub record KeepsRoom (old new : CellsShape) : Type 0 where
+  pub cells : new.cell_room ≡ old.cell_room
+  pub tokens : new.token_room ≡ old.token_room
+  pub needs : new.need_room ≡ old.need_room

@@ -1,12 +1,13 @@
 //! A sheet in the cells of a trail.
 
-ghost use Rattle.std.specs.Prelude.{◌≡◌, ◌<◌, ◌≤◌, ◌+◌, ◌++◌, ◌∷◌, [], ◌^◌, false, true, length, OnOk};
+ghost use Rattle.std.specs.Prelude.{◌≡◌, ◌<◌, ◌≤◌, ◌+◌, ◌++◌, ◌∷◌, [], ◌^◌, ℕ, false, true, length, OnOk};
 ghost use Rattle.cpt_sheet.specs.Formed.{IsPlaced};
 ghost use Rattle.cpt_sheet.specs.Edits.{changed, with_posted};
-ghost use Rattle.cpt_sheet.specs.View.{span_of, kind_of, before, has, cands};
-ghost use Rattle.cpt_cells.specs.Shapes.{SheetMark, KeepsMarks, IsBackAt, IsCellOf, written_of};
+ghost use Rattle.cpt_sheet.specs.View.{span_of, kind_of, before, has, cands, token_at};
+ghost use Rattle.cpt_cells.specs.Shapes.{SheetMark, KeepsMarks, KeepsRoom, IsBackAt, IsCellOf, written_of};
 ghost use Rattle.cpt_layout.specs.Sheets.{IsSmall};
 
+use crate::appending::append_all;
 use crate::spans::{number_of_span, span_of_number};
 use cpt_layout::{Layout, place_of};
 use cpt_sheet::{Cand, Change, Interval, Kind};
@@ -36,8 +37,10 @@ impl Model for Cells {
 }
 
 impl Cells {
-    ghost use Rattle.cpt_layout.specs.Places.{Place, IsThere, order};
-    ghost use Rattle.cpt_layout.specs.Numbers.{cell_of};
+    ghost use Rattle.cpt_task.specs.Shape.{TaskShape};
+    ghost use Rattle.cpt_layout.specs.Places.{Place, IsThere, adders_at, extended, needs_at, needs_by, order};
+    ghost use Rattle.cpt_layout.specs.Numbers.{cell_of, cells_in};
+    ghost use Rattle.cpt_block.specs.Blocks.{IsFrameOf, block, grown, list_in};
     ghost use Rattle.cpt_layout.specs.Puts.{Puts, lo_of, hi_of, IsSpanOf, IsCandCell, CanMake};
 
     /// The interval of a token.
@@ -64,6 +67,20 @@ impl Cells {
         }
     }
 
+    /// The interval of the outside occurrences of an action; none where there is no such action.
+    pub fn out_at(&self, a: u32) -> Interval
+        ensures { result ≡ span_of self.now.sheet (Cand.Out a) }
+    {
+        if 2 * (a as usize) < self.layout.out_cells() {
+            self.out(a)
+        } else {
+            Interval {
+                lo: Span::Never,
+                hi: 0,
+            }
+        }
+    }
+
     /// The greatest makespan.
     pub fn bound(&self) -> u64
         ensures { result ≡ self.now.sheet.bound }
@@ -73,9 +90,40 @@ impl Cells {
 
     /// How many tokens there are.
     pub fn tokens(&self) -> usize
-        ensures { result ≡ length self.now.sheet.tokens }
+        ensures value { result ≡ length self.now.sheet.tokens }
+        ensures kinds { result ≡ length self.now.frame.kinds }
     {
         self.layout.tokens()
+    }
+
+    /// What a token needs.
+    pub fn needs(&self, x: u32) -> &[u32]
+        requires { x < length self.now.sheet.tokens }
+        ensures value { result.now ≡ needs_at self.now.frame x }
+        ensures lists { length result.now ≡ length (token_at self.now.sheet x).lists }
+    {
+        self.layout.needs(x)
+    }
+
+    /// The actions that add an atom.
+    pub fn adders(&self, p: u32) -> &[u32]
+        ensures { result.now ≡ adders_at self.now.frame p }
+    {
+        self.layout.adders(p)
+    }
+
+    /// Whether an outside action is in the list of a token at a place among its preconditions.
+    pub fn lists_out(&self, x: u32, j: usize, a: u32) -> bool
+        requires token { x < length self.now.sheet.tokens }
+        requires need { j < length (needs_at self.now.frame x) }
+        ensures { result ≡ has (Cand.Out a) (list_in self.now.sheet x j) }
+    {
+        let adders = self.layout.adders(self.layout.needs(x)[j]);
+        if place_of(adders, a) < adders.len() {
+            self.trail.get(self.layout.out_cand_cell(x, j, a)) == 1
+        } else {
+            false
+        }
     }
 
     /// What a token stands for.
@@ -86,14 +134,20 @@ impl Cells {
         self.layout.kind(x)
     }
 
-    /// Room for one mark: for an entry of each cell, and for the mark itself.
-    pub fn reserve_mark(&mut self) -> Result<(), Memory>
+    /// Room for a token of so many cells and needs, if there is to be one, for an entry of each cell that is there, and
+    /// for one mark.
+    pub fn reserve(&mut self, cells: usize, tokens: usize, needs: usize) -> Result<(), Memory>
+        ensures frame { self.new.frame ≡ self.old.frame }
         ensures sheet { self.new.sheet ≡ self.old.sheet }
         ensures marks { self.new.marks ≡ self.old.marks }
+        ensures cell_room { OnOk result (cells ≤ self.new.cell_room) }
+        ensures token_room { OnOk result (tokens ≤ self.new.token_room) }
+        ensures need_room { OnOk result (needs ≤ self.new.need_room) }
         ensures room { OnOk result (0 < self.new.mark_room) }
         ensures entries { OnOk result (self.new.cells ≤ self.new.entry_room) }
     {
-        self.trail.reserve(0, self.end, 1)
+        self.trail.reserve(cells, self.end, 1)?;
+        self.layout.reserve(tokens, needs)
     }
 
     /// A new mark. The answer is how many stood before.
@@ -101,7 +155,9 @@ impl Cells {
         requires room { 0 < self.old.mark_room }
         requires entries { self.old.cells ≤ self.old.entry_room }
         ensures number { result ≡ length self.old.marks }
+        ensures frame { self.new.frame ≡ self.old.frame }
         ensures sheet { self.new.sheet ≡ self.old.sheet }
+        ensures room { KeepsRoom self.old self.new }
         ensures marks { self.new.marks ≡ self.old.marks ++ record { sheet = self.old.sheet; written = 0 } ∷ [] }
     {
         self.trail.mark()
@@ -258,5 +314,24 @@ impl Cells {
         if !self.before(x, y) {
             self.post(x, y, steps);
         }
+    }
+
+    /// A token more of this kind, whose cells hold these numbers. No order of it is posted yet.
+    pub fn grow<L: Ledger>(&mut self, kind: Kind, numbers: &[u64], steps: &mut Steps<L>)
+        requires size { length numbers.now + cells_in self.old.frame ≡ cells_in (extended self.old.frame (kind ∷ [])) }
+        requires fits { cells_in (extended self.old.frame (kind ∷ [])) < 2 ^ 64 }
+        requires cell_room { length numbers.now ≤ self.old.cell_room }
+        requires token_room { 0 < self.old.token_room }
+        requires need_room { length (needs_by self.old.frame kind) ≤ self.old.need_room }
+        ensures frame { self.new.frame ≡ extended self.old.frame (kind ∷ []) }
+        ensures sheet { (t : TaskShape) (lo hi : ℕ) → IsFrameOf t self.old.frame → numbers.now ≡ block t self.old.frame self.old.sheet kind lo hi → self.new.sheet ≡ grown t self.old.sheet kind lo hi }
+        ensures marks { KeepsMarks self.old.marks self.new.marks }
+    {
+        let count = self.layout.out_cells();
+        let tokens = self.layout.tokens() as u64 + 1;
+        self.trail.write(count, tokens, steps);
+        append_all(&mut self.trail, numbers);
+        self.layout.push(kind, self.end);
+        self.end += numbers.len();
     }
 }

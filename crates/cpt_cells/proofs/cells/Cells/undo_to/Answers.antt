@@ -56,8 +56,8 @@ returns-clause-back g c =
     let u = c.undo_to.new.self in
     let n : c.get-number.result ≡ count_at s u.cells = c.get-number.ensures ∙ ap (λ (j : ℕ). get_or u.cells j 0) c.out_cells-count.ensures in
     let f : c.truncate.new.self.frame ≡ cut s (count_at s u.cells) = c.truncate.ensures.frame ∙ ap (λ (j : ℕ). cut s j) n in
-    subst (λ (t : CellsShape). IsBackAt c.args.mark t (seen_by u c.truncate.new.self.frame)) c.self.view_is
-    (subst (λ (r : Frame). IsBackAt c.args.mark (seen_by i.trail s) (seen_by u r)) (sym f) (back_seen i.trail u s c.args.mark i.end c.self.invariant c.undo_to.ensures.back))
+    subst (λ (t : CellsShape). IsBackAt c.args.mark t (seen_by u c.truncate.new.self)) c.self.view_is
+    (back_seen i.trail u i.layout c.truncate.new.self c.args.mark i.end c.self.invariant c.undo_to.ensures.back f)
 
 pub returns-clause-ticks : goal.returns-clause-ticks
 returns-clause-ticks g c =

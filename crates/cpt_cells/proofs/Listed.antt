@@ -1,0 +1,62 @@
+-- whether an outside action is in a list
+use Rattle.std.proofs.Common.{◌≡◌, ◌≢◌, ℕ, suc, zero, ◌+◌, ◌<◌, ◌==◌, List, [], ◌∷◌, Bool, true, false, if◌then◌else◌, length, refl, sym, ◌∙◌, ap, subst, arith, inl, inr}
+use Rattle.std.specs.Prelude.{map}
+use Rattle.std.proofs.lemmas.Bool.{eqb-true, false≢true, or_cases}
+use Rattle.cpt_sheet.specs.declared.data.Cand.{Cand}
+use Rattle.cpt_sheet.specs.declared.data.Cand.TheVariants.{Tok, Out}
+use Rattle.cpt_sheet.specs.View.{has, same}
+use Rattle.cpt_layout.specs.Places.{Frame, Place, In, IsThere, adders_at, all_cands, atom_at, kept, member, needs_at, place_in, table}
+use Rattle.cpt_layout.specs.Sheets.{is_cand, need_from, sheet_from}
+use Rattle.cpt_layout.proofs.Cands.{in_outs, outs_in, same_true}
+use Rattle.cpt_layout.proofs.Lists.{append_in, either, if_false, in_append, in_table, when}
+use Rattle.cpt_layout.proofs.Reading.{listed_is}
+use Rattle.cpt_block.specs.Blocks.{list_in}
+use Rattle.cpt_block.proofs.Lookups.{list_is}
+use Rattle.cpt_block.proofs.Rows.{place_below}
+
+place_there : (a : ℕ) (bs : List ℕ) → place_in a bs < length bs → In a bs
+place_there a [] h = absurd (omega arith)
+place_there a (b ∷ bs) h =
+    elim (either (b == a)) [
+      | inl e ↦ inl (eqb-true b a e)
+      | inr e ↦ (let q : place_in a (b ∷ bs) ≡ suc (place_in a bs) = if_false (b == a) 0 (suc (place_in a bs)) e in inr (place_there a bs (omega arith)))
+    ]
+
+kept_in : (f : Cand → Bool) (c : Cand) (ds : List Cand) → has c (kept f ds) ≡ true → In c ds
+kept_in f c [] h = absurd (false≢true h)
+kept_in f c (d ∷ ds) h =
+    elim (either (f d)) [
+      | inl t ↦
+          elim (or_cases (same d c) (has c (kept f ds)) (sym (ap (λ (b : Bool). has c (when b d (kept f ds))) t) ∙ h)) [
+            | inl k ↦ inl (same_true d c k)
+            | inr k ↦ inr (kept_in f c ds k)
+          ]
+      | inr n ↦ inr (kept_in f c ds (sym (ap (λ (b : Bool). has c (when b d (kept f ds))) n) ∙ h))
+    ]
+
+in_out_at : (bs : List ℕ) (a : ℕ) → (b : ℕ) × (In b bs) × (Out a ≡ Out b) → In a bs
+in_out_at bs a t = (let q = t.2 in let e : t.0 ≡ a = cc in subst (λ (i : ℕ). In i bs) e t.1)
+
+out_there : (s : Frame) (p a : ℕ) → In (Out a) (all_cands s p) → In a (adders_at s p)
+out_there s p a h =
+    elim (in_append (Out a) (table Tok 0 (length s.kinds)) (map Out (adders_at s p)) h) [
+      | inl r ↦ (let t = in_table Tok 0 (length s.kinds) (Out a) r in let q = t.3 in let e : Tok t.0 ≡ Out a = q in cc)
+      | inr r ↦ in_out_at (adders_at s p) a (in_outs (adders_at s p) (Out a) r)
+    ]
+
+pub out_is_there : (s : Frame) (x j a : ℕ) → x < length s.kinds → j < length (needs_at s x) → place_in a (adders_at s (atom_at s x j)) < length (adders_at s (atom_at s x j)) → IsThere s (member x j (Out a))
+out_is_there s x j a l h b = (l, h, append_in (Out a) (table Tok 0 (length s.kinds)) (map Out (adders_at s (atom_at s x j))) (inr (outs_in (adders_at s (atom_at s x j)) a (place_there a (adders_at s (atom_at s x j)) b))), λ e. cc)
+
+pub out_listed : (s : Frame) (v : Place → ℕ) (x j a : ℕ) → x < length s.kinds → j < length (needs_at s x) → place_in a (adders_at s (atom_at s x j)) < length (adders_at s (atom_at s x j)) →
+    (v (member x j (Out a)) == 1) ≡ has (Out a) (list_in (sheet_from s v) x j)
+out_listed s v x j a l h b =
+    (let t = out_is_there s x j a l h b in sym (listed_is s v x j (Out a) t.2))
+    ∙ ap (λ (cs : List Cand). has (Out a) cs) (sym (list_is s v x j l h))
+
+pub out_unlisted : (s : Frame) (v : Place → ℕ) (x j a : ℕ) → x < length s.kinds → j < length (needs_at s x) → (place_in a (adders_at s (atom_at s x j)) < length (adders_at s (atom_at s x j)) → ⊥) →
+    false ≡ has (Out a) (list_in (sheet_from s v) x j)
+out_unlisted s v x j a l h b =
+    elim (either (has (Out a) (need_from s v x j).cands)) [
+      | inl e ↦ absurd (b (place_below a (adders_at s (atom_at s x j)) (out_there s (atom_at s x j) a (kept_in (is_cand v x j) (Out a) (all_cands s (atom_at s x j)) e))))
+      | inr e ↦ sym (ap (λ (cs : List Cand). has (Out a) cs) (list_is s v x j l h) ∙ e)
+    ]
