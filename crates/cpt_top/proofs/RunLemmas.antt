@@ -8,12 +8,14 @@ use Rattle.cpt_answer.specs.Promise.{AnswersOver, Call, IsAnswerOf, IsQuiet, May
 use Rattle.cpt_answer.specs.Writing.{Output, Writes}
 use Rattle.cpt_answer.proofs.Giving.{if_some_weaker}
 use Rattle.cpt_answer.proofs.Promise as general
-use Rattle.cpt_words.specs.Laws.{AsksChecking, AsksJudging, AsksListing, AsksValidation, IsUsage}
-use Rattle.cpt_words.specs.Words.{Asked, asked_in, checking, judging, listing, validation}
+use Rattle.cpt_words.specs.Laws.{AsksChecking, AsksJudging, AsksListing, AsksSolving, AsksValidation, IsUsage}
+use Rattle.cpt_words.specs.Words.{Asked, asked_in, checking, judging, listing, solving, validation}
+use Rattle.cpt_words.specs.declared.options.Budget.{Budget}
 use Rattle.cpt_words.proofs.Reading.{reads_words}
 use Rattle.cpt_validate.specs.Commands.{ValidatesProblem, ValidatesTask}
 use Rattle.cpt_listing.specs.Listing.{ListsProblem}
 use Rattle.cpt_check_files.specs.Commands.{ChecksProblem}
+use Rattle.cpt_solve.specs.Commands.{SolvesProblem}
 use Rattle.cpt_top.specs.Commands.{Answers, AnswersTo, AnswersWords, Keeps, Reaches}
 
 -- what a call promises, over words and files, with what is left of the file that was opened last
@@ -37,6 +39,7 @@ pub record AllKept (o : Option Files) (words : List (List ℕ)) (left : Option (
   pub validate : IfSome o (λ files. (domain_name problem_name plan_name : List ℕ) → AsksJudging words domain_name problem_name plan_name → ValidatesProblem files domain_name problem_name plan_name x)
   pub ground : IfSome o (λ files. (domain_name problem_name : List ℕ) → AsksListing words domain_name problem_name → ListsProblem files domain_name problem_name x)
   pub check : IfSome o (λ files. (domain_name problem_name cert_name : List ℕ) → AsksChecking words domain_name problem_name cert_name → ChecksProblem files domain_name problem_name cert_name x)
+  pub solve : IfSome o (λ files. (domain_name problem_name : List ℕ) (budget : Budget) → AsksSolving words domain_name problem_name budget → SolvesProblem files domain_name problem_name budget x)
 
 -- the command that is asked for keeps its promise
 abbrev CommandKeeps : Option Files → List (List ℕ) → Call → Type 0
@@ -77,6 +80,7 @@ all_kept o words left x h kept end unknown =
       validate = if_some_weaker o Kept (λ files. (d p n : List ℕ) → AsksJudging words d p n → ValidatesProblem files d p n x) (λ files k d p n asks. k (judging d p n) ((reads_words.judging words d p n).1 asks)) kept;
       ground = if_some_weaker o Kept (λ files. (d p : List ℕ) → AsksListing words d p → ListsProblem files d p x) (λ files k d p asks. k (listing d p) ((reads_words.listing words d p).1 asks)) kept;
       check = if_some_weaker o Kept (λ files. (d p c : List ℕ) → AsksChecking words d p c → ChecksProblem files d p c x) (λ files k d p c asks. k (checking d p c) ((reads_words.checking words d p c).1 asks)) kept;
+      solve = if_some_weaker o Kept (λ files. (d p : List ℕ) (budget : Budget) → AsksSolving words d p budget → SolvesProblem files d p budget x) (λ files k d p budget asks. k (solving d p budget) ((reads_words.solving words d p budget).1 asks)) kept;
     }
 
 -- the answers of the command that is asked for are those to the words

@@ -7,17 +7,20 @@ ghost use Rattle.cpt_answer.specs.Endings.{Answer, answer, read_answer};
 ghost use Rattle.cpt_answer.specs.Lines.{memory_line, read_line};
 ghost use Rattle.cpt_answer.specs.Promise.{AnswersOver, IsQuiet, MayWrite, Performs, call};
 ghost use Rattle.cpt_answer.specs.Writing.{output};
-ghost use Rattle.cpt_words.specs.Laws.{AsksChecking, AsksJudging, AsksListing, AsksValidation, IsUsage};
-ghost use Rattle.cpt_words.specs.Words.{asked_of};
+ghost use Rattle.cpt_words.specs.Laws.{AsksChecking, AsksJudging, AsksListing, AsksSolving, AsksValidation, IsUsage};
+ghost use Rattle.cpt_words.specs.Words.{IsWithin, asked_of};
+ghost use Rattle.cpt_words.specs.declared.options.Budget.{Budget};
 ghost use Rattle.cpt_validate.specs.Commands.{ValidatesProblem, ValidatesTask};
 ghost use Rattle.cpt_listing.specs.Listing.{ListsProblem};
 ghost use Rattle.cpt_check_files.specs.Commands.{ChecksProblem};
+ghost use Rattle.cpt_solve.specs.Commands.{SolvesProblem};
 ghost use Rattle.cpt_top.specs.Commands.{Answers, Keeps, Reaches};
 
 use cpt_answer::put_usage;
 use cpt_check_files::check_certificate;
 use cpt_io::{Library, Sink};
 use cpt_listing::ground;
+use cpt_solve::solve;
 use cpt_validate::{validate, validate_task};
 use cpt_words::{Command, command_in};
 use std::alloc::Global;
@@ -26,6 +29,7 @@ use std::alloc::Global;
 fn perform<L: Library, K: Sink>(alloc: Global, command: Command<'_>, lib: &mut L, out: &mut K) -> u8
     requires lib { L.faults lib.old < 2 ^ 64 - 1 }
     requires out { K.faults out.old < 2 ^ 64 - 1 }
+    requires within { IsWithin (asked_of command) }
     ensures performs { Performs (AnswersOver (L.holds lib.old) (λ files. Reaches files (asked_of command.entry))) (call (L.steady lib.old) (L.faults lib.old) (L.faults lib.new) (output (K.faults out.old) (K.written out.old)) (output (K.faults out.new) (K.written out.new)) result) }
     ensures keeps { IfSome (L.holds lib.old) (λ files. Keeps files (asked_of command.entry) (call (L.steady lib.old) (L.faults lib.old) (L.faults lib.new) (output (K.faults out.old) (K.written out.old)) (output (K.faults out.new) (K.written out.new)) result)) }
     ensures end { result ≡ 0 → IsSome (L.holds lib.old) → L.left lib.new ≡ Some [] }
@@ -38,6 +42,9 @@ fn perform<L: Library, K: Sink>(alloc: Global, command: Command<'_>, lib: &mut L
         Command::Ground(domain, problem) => ground(alloc, domain, problem, lib, out),
         Command::Check(domain, problem, cert) => {
             check_certificate(alloc, domain, problem, cert, lib, out)
+        }
+        Command::Solve(domain, problem, budget) => {
+            solve(alloc, domain, problem, budget, lib, out)
         }
     }
 }
@@ -88,6 +95,8 @@ pub fn run<L: Library, K: Sink>(alloc: Global, words: &[String], lib: &mut L, ou
         → ListsProblem files domain_name problem_name (call (L.steady lib.old) (L.faults lib.old) (L.faults lib.new) (output (K.faults out.old) (K.written out.old)) (output (K.faults out.new) (K.written out.new)) result)) }
     ensures check { IfSome (L.holds lib.old) (λ files. (domain_name problem_name cert_name : List ℕ) → AsksChecking (map string_bytes words.now) domain_name problem_name cert_name
         → ChecksProblem files domain_name problem_name cert_name (call (L.steady lib.old) (L.faults lib.old) (L.faults lib.new) (output (K.faults out.old) (K.written out.old)) (output (K.faults out.new) (K.written out.new)) result)) }
+    ensures solve { IfSome (L.holds lib.old) (λ files. (domain_name problem_name : List ℕ) (budget : Budget) → AsksSolving (map string_bytes words.now) domain_name problem_name budget
+        → SolvesProblem files domain_name problem_name budget (call (L.steady lib.old) (L.faults lib.old) (L.faults lib.new) (output (K.faults out.old) (K.written out.old)) (output (K.faults out.new) (K.written out.new)) result)) }
 {
     match command_in(words) {
         Some(command) => perform(alloc, command, lib, out),

@@ -1,11 +1,18 @@
-use Rattle.std.proofs.Common.{◌≡◌, ◌↔◌, ◌⊎◌, inl, inr, ◌&&◌, ℕ, Bool, true, false, List, [], ◌∷◌, codes, Option, None, Some, refl, sym, ap, ◌∙◌, subst}
-use Rattle.std.specs.Prelude.{option_map, option_and_then, if◌then◌else◌}
+use Rattle.std.proofs.Common.{◌≡◌, ◌⊎◌, inl, inr, ◌&&◌, ◌≤◌, ℕ, Bool, true, false, not, List, [], ◌∷◌, codes, Option, None, Some, refl, sym, ap, ◌∙◌, subst, arith}
+use Rattle.std.specs.Prelude.{IfSome, option_map, option_and_then, if◌then◌else◌, unwrap_or}
 use Rattle.std.specs.Str.{bytes_eq}
 use Rattle.std.proofs.lemmas.Slice.Eq.{bytes_eq-Decides}
+use Rattle.cpt_cert_form.specs.declared.forms.Version.{Version}
+use Rattle.cpt_cert_form.specs.declared.forms.Version.TheVariants.{One, Two}
+use Rattle.cpt_words.specs.declared.options.Budget.{Budget}
+use Rattle.cpt_words.specs.declared.options.Options.{Options}
+use Rattle.cpt_words.specs.declared.words.Command.{Command}
 use Rattle.cpt_words.specs.declared.words.Verb.{Verb}
 use Rattle.cpt_words.specs.declared.words.Verb.TheVariants as verbs
-use Rattle.cpt_words.specs.Laws.{AsksChecking, AsksJudging, AsksListing, AsksValidation, ReadsWords}
-use Rattle.cpt_words.specs.Words.{Asked, asked_by, asked_in, checking, is_file_name, judging, listing, three_names, two_names, validation, verb_in, verb_word}
+use Rattle.cpt_words.specs.Laws.{AsksChecking, AsksJudging, AsksListing, AsksSolving, AsksValidation, ReadsWords}
+use Rattle.cpt_words.specs.Options.{Gives, IsBudget, budget_of, max, no_options, nodes, nothing, one, options_behind, two, with_max, with_nodes, with_version}
+use Rattle.cpt_words.specs.Words.{Asked, IsWithin, asked_by, asked_in, asked_of, checking, is_file_name, judging, listing, searched_in, solved_as, solving, three_names, two_names, validation, verb_in, verb_word}
+use Rattle.cpt_words.proofs.Choosing.{gives_of, of_gives, taken}
 
 -- the word is that of the command, or another one is looked for
 chosen_by : (t : Bool) (same : Type 0) (v u : Verb) (rest : Option Verb) → (t ≡ true → same) → if◌then◌else◌ {A = Option Verb} t (Some v) rest ≡ Some u → ((v ≡ u) × same) ⊎ (rest ≡ Some u)
@@ -24,7 +31,7 @@ or_later w u rest later h = elim h [ inl e ↦ e | inr k ↦ later k ]
 
 word_is : (w : List ℕ) (u : Verb) → verb_in w ≡ Some u → w ≡ verb_word u
 word_is w u h =
-    or_later w u _ (λ h. or_later w u _ (λ h. or_later w u _ (λ h. or_later w u _ (λ h. absurd (cc)) (chosen w verbs.Check u _ h)) (chosen w verbs.Ground u _ h)) (chosen w verbs.Validate u _ h)) (chosen w verbs.ValidateTask u _ h)
+    or_later w u _ (λ h. or_later w u _ (λ h. or_later w u _ (λ h. or_later w u _ (λ h. or_later w u _ (λ h. absurd (cc)) (chosen w verbs.Solve u _ h)) (chosen w verbs.Check u _ h)) (chosen w verbs.Ground u _ h)) (chosen w verbs.Validate u _ h)) (chosen w verbs.ValidateTask u _ h)
 
 -- names that are taken
 abbrev Pair : Type 0
@@ -117,6 +124,59 @@ verb_of (validation t p) = verbs.ValidateTask
 verb_of (judging d p n) = verbs.Validate
 verb_of (listing d p) = verbs.Ground
 verb_of (checking d p c) = verbs.Check
+verb_of (solving d p budget) = verbs.Solve
+
+-- the budget of a search that is asked for
+abbrev budget_in : Asked → Budget
+budget_in (validation t p) = budget_of no_options
+budget_in (judging d p n) = budget_of no_options
+budget_in (listing d p) = budget_of no_options
+budget_in (checking d p c) = budget_of no_options
+budget_in (solving d p budget) = budget
+
+some_same : {A : Type 0} (x y : A) → Some x ≡ Some y → x ≡ y
+some_same x y h = cc
+
+-- two names, and the options behind them
+abbrev Searched : Type 0
+Searched = List ℕ × List ℕ × Options
+
+pub record AreSearched (ws : List (List ℕ)) (a b : List ℕ) (given : Options) : Type 0 where
+  pub options : List (List ℕ)
+  pub words_are : ws ≡ a ∷ b ∷ options
+  pub first : is_file_name a ≡ true
+  pub second : is_file_name b ≡ true
+  pub gives : Gives given no_options options
+
+named : (s t : Bool) (o : Option Searched) (n : Searched) → if◌then◌else◌ {A = Option Searched} (not (s && t)) None o ≡ Some n → (s ≡ true) × (t ≡ true) × (o ≡ Some n)
+named true true o n h = (refl, refl, h)
+named false t o n h = absurd (cc)
+named true false o n h = absurd (cc)
+
+searched_are : (ws : List (List ℕ)) (n : Searched) → searched_in ws ≡ Some n → AreSearched ws n.0 n.1 n.2
+searched_are (a ∷ b ∷ ws) n h =
+    let k = named (is_file_name a) (is_file_name b) (option_and_then (λ (given : Options). Some (a, b, given)) (options_behind no_options ws)) n h in
+    let g = taken {A = Options} {B = Searched} (λ given. Some (a, b, given)) (options_behind no_options ws) n k.2 in
+    let P : Searched → Type 0 = λ n. AreSearched (a ∷ b ∷ ws) n.0 n.1 n.2 in
+    subst P (some_same {A = Searched} (a, b, g.0) n g.2) (record { options = ws; words_are = refl; first = k.0; second = k.1; gives = gives_of no_options ws g.0 g.1 })
+searched_are [] n h = absurd (cc)
+searched_are (a ∷ []) n h = absurd (cc)
+
+searched_of : (a b : List ℕ) (options : List (List ℕ)) (given : Options) → is_file_name a ≡ true → is_file_name b ≡ true → Gives given no_options options → searched_in (a ∷ b ∷ options) ≡ Some (a, b, given)
+searched_of a b options given h k gives = rw h (rw k (ap (option_and_then (λ (given : Options). Some (a, b, given))) (of_gives given no_options options gives)))
+
+-- what is asked of `solve`
+solved_is : (a b : List ℕ) (given : Options) (o : Option Version) (x : Asked) → solved_as a b given o ≡ Some x → (o ≡ None) × (solving a b (budget_of given) ≡ x)
+solved_is a b given None x h = (refl, some_same (solving a b (budget_of given)) x h)
+solved_is a b given (Some v) x h = absurd (cc)
+
+abbrev solve_of : Searched → Option Asked
+solve_of n = solved_as n.0 n.1 n.2 n.2.version
+
+solve_verb : (o : Option Searched) (a : Asked) → option_and_then solve_of o ≡ Some a → verbs.Solve ≡ verb_of a
+solve_verb o a h =
+    let n = taken {A = Searched} solve_of o a h in
+    ap verb_of (solved_is n.0.0 n.0.1 n.0.2 n.0.2.version a n.2).1
 
 mapped : {A : Type 0} (f : A → Asked) (v : Verb) (o : Option A) (a : Asked) → ((x : A) → verb_of (f x) ≡ v) → option_map f o ≡ Some a → (x : A) × (o ≡ Some x) × (f x ≡ a) × (verb_of a ≡ v)
 mapped f v (Some x) a of h = let e : f x ≡ a = cc in (x, refl, e, sym (ap verb_of e) ∙ of x)
@@ -127,6 +187,7 @@ asked_verb verbs.ValidateTask ws a h = sym (mapped (λ n. validation n.0 n.1) ve
 asked_verb verbs.Validate ws a h = sym (mapped (λ n. judging n.0 n.1 n.2) verbs.Validate (three_names ws) a (λ x. refl) h).3
 asked_verb verbs.Ground ws a h = sym (mapped (λ n. listing n.0 n.1) verbs.Ground (two_names ws) a (λ x. refl) h).3
 asked_verb verbs.Check ws a h = sym (mapped (λ n. checking n.0 n.1 n.2) verbs.Check (three_names ws) a (λ x. refl) h).3
+asked_verb verbs.Solve ws a h = solve_verb (searched_in ws) a h
 
 -- the first word is that of the command, and the others are its names
 pub record IsCall (words : List (List ℕ)) (a : Asked) : Type 0 where
@@ -172,10 +233,72 @@ asks_checking words d p c h =
     let are = three_are call.rest d p c (x.1 ∙ ap Some (triple_of x.0 d p c (cc x.2) (cc x.2) (cc x.2))) in
     record { words_are = call.words_are ∙ ap (λ ws. codes "check" ∷ ws) are.words_are; domain_named = are.first; problem_named = are.second; cert_named = are.third }
 
+asks_solving : (words : List (List ℕ)) (d p : List ℕ) (budget : Budget) → asked_in words ≡ Some (solving d p budget) → AsksSolving words d p budget
+asks_solving words d p budget h =
+    let call = is_call words (solving d p budget) h in
+    let n = taken {A = Searched} solve_of (searched_in call.rest) (solving d p budget) call.asks in
+    let s = solved_is n.0.0 n.0.1 n.0.2 n.0.2.version (solving d p budget) n.2 in
+    let are = searched_are call.rest n.0 n.1 in
+    let first : n.0.0 ≡ d = cc s.1 in
+    let second : n.0.1 ≡ p = cc s.1 in
+    record {
+      options = are.options;
+      given = n.0.2;
+      words_are = call.words_are ∙ ap (λ ws. codes "solve" ∷ ws) (are.words_are ∙ ap (λ x. x ∷ n.0.1 ∷ are.options) first ∙ ap (λ x. d ∷ x ∷ are.options) second);
+      domain_named = subst (λ n. is_file_name n ≡ true) first are.first;
+      problem_named = subst (λ n. is_file_name n ≡ true) second are.second;
+      gives = are.gives;
+      no_version = s.0;
+      is = sym (ap budget_in s.1);
+    }
+
+solves : (words : List (List ℕ)) (d p : List ℕ) (budget : Budget) → AsksSolving words d p budget → asked_in words ≡ Some (solving d p budget)
+solves words d p budget asks =
+    let solved : solved_as d p asks.given asks.given.version ≡ Some (solving d p (budget_of asks.given)) = ap (solved_as d p asks.given) asks.no_version in
+    ap asked_in asks.words_are ∙ ap (option_and_then solve_of) (searched_of d p asks.options asks.given asks.domain_named asks.problem_named asks.gives) ∙ solved ∙ ap (λ b. Some (solving d p b)) (sym asks.is)
+
 pub reads_words : ReadsWords
 reads_words = record {
   validation = λ words t p. (asks_validation words t p, λ asks. ap asked_in asks.words_are ∙ ap (option_map (λ n. validation n.0 n.1)) (two_taken t p asks.task_named asks.plan_named));
   judging = λ words d p n. (asks_judging words d p n, λ asks. ap asked_in asks.words_are ∙ ap (option_map (λ n. judging n.0 n.1 n.2)) (three_taken d p n asks.domain_named asks.problem_named asks.plan_named));
   listing = λ words d p. (asks_listing words d p, λ asks. ap asked_in asks.words_are ∙ ap (option_map (λ n. listing n.0 n.1)) (two_taken d p asks.domain_named asks.problem_named));
   checking = λ words d p c. (asks_checking words d p c, λ asks. ap asked_in asks.words_are ∙ ap (option_map (λ n. checking n.0 n.1 n.2)) (three_taken d p c asks.domain_named asks.problem_named asks.cert_named));
+  solving = λ words d p budget. (asks_solving words d p budget, solves words d p budget);
 }
+
+-- options that keep their limits
+pub record AreLimited (given : Options) : Type 0 where
+  pub max : IfSome given.max (λ n. n ≤ 1000000)
+  pub nodes : IfSome given.nodes (λ n. (1 ≤ n) × (n ≤ 4000000000))
+
+limited : (all given : Options) (ws : List (List ℕ)) → AreLimited given → Gives all given ws → AreLimited all
+limited all given ws h nothing = h
+limited all given ws h (max g n more free high rest) = limited all (with_max g n) more (record { max = high; nodes = h.nodes }) rest
+limited all given ws h (nodes g n more free low high rest) = limited all (with_nodes g n) more (record { max = h.max; nodes = (low, high) }) rest
+limited all given ws h (one g more free rest) = limited all (with_version g One) more (record { max = h.max; nodes = h.nodes }) rest
+limited all given ws h (two g more free rest) = limited all (with_version g Two) more (record { max = h.max; nodes = h.nodes }) rest
+
+most_is : (o : Option ℕ) → IfSome o (λ n. n ≤ 1000000) → unwrap_or o 1000 ≤ 1000000
+most_is None h = omega arith
+most_is (Some n) h = h
+
+nodes_are : (o : Option ℕ) → IfSome o (λ n. (1 ≤ n) × (n ≤ 4000000000)) → (1 ≤ unwrap_or o 1000000) × (unwrap_or o 1000000 ≤ 4000000000)
+nodes_are None h = (omega arith, omega arith)
+nodes_are (Some n) h = h
+
+is_budget : (given : Options) → AreLimited given → IsBudget (budget_of given)
+is_budget given h = let n = nodes_are given.nodes h.nodes in record { max = most_is given.max h.max; some = n.0; few = n.1 }
+
+-- the options of what is asked for keep their limits
+pub is_within : (words : List (List ℕ)) (asked : Asked) → asked_in words ≡ Some asked → IsWithin asked
+is_within words (validation t p) h = tt
+is_within words (judging d p n) h = tt
+is_within words (listing d p) h = tt
+is_within words (checking d p c) h = tt
+is_within words (solving d p budget) h =
+    let asks = asks_solving words d p budget h in
+    subst IsBudget (sym asks.is) (is_budget asks.given (limited asks.given no_options asks.options (record { max = tt; nodes = tt }) asks.gives))
+
+pub within_of : (o : Option Command) (words : List (List ℕ)) → option_map asked_of o ≡ asked_in words → IfSome o (λ command. IsWithin (asked_of command))
+within_of None words e = tt
+within_of (Some command) words e = is_within words (asked_of command) (sym e)

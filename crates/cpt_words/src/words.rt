@@ -1,8 +1,9 @@
 //! What the words ask for.
 
-ghost use Rattle.std.specs.Prelude.{◌≡◌, map, option_map, string_bytes};
-ghost use Rattle.std.specs.Str.{bytes_eq};
-ghost use Rattle.cpt_words.specs.Words.{asked_by, asked_in, asked_of, is_file_name, three_names, two_names, verb_in};
+ghost use Rattle.std.specs.Prelude.{◌≡◌, map, option_map, string_bytes, IfSome};
+ghost use Rattle.cpt_words.specs.Words.{IsWithin, asked_by, asked_in, asked_of, is_file_name, searched_in, solve_in, three_names, two_names, verb_in};
+
+use crate::options::{Budget, Options, budget_of, is_word, options_behind};
 
 /// What the words ask for, with the names of its files.
 #[derive(Clone, Copy)]
@@ -15,6 +16,8 @@ pub enum Command<'a> {
     Ground(&'a str, &'a str),
     /// To check the certificate of the third name over the domain and the problem of the first two.
     Check(&'a str, &'a str, &'a str),
+    /// To find a plan of least makespan for the domain and the problem.
+    Solve(&'a str, &'a str, Budget),
 }
 
 /// A command without the names of its files.
@@ -24,6 +27,7 @@ pub enum Verb {
     Validate,
     Ground,
     Check,
+    Solve,
 }
 
 /// Whether the word is a name and no option.
@@ -34,12 +38,6 @@ fn is_name(word: &str) -> bool
         [] => false,
         [first, ..] => *first != b'-',
     }
-}
-
-fn is_word(word: &str, wanted: &str) -> bool
-    ensures { result ≡ bytes_eq word.now wanted.now }
-{
-    word == wanted
 }
 
 /// The command whose first word this is.
@@ -54,6 +52,8 @@ fn verb_in(word: &str) -> Option<Verb>
         Some(Verb::Ground)
     } else if is_word(word, "check") {
         Some(Verb::Check)
+    } else if is_word(word, "solve") {
+        Some(Verb::Solve)
     } else {
         None
     }
@@ -90,6 +90,38 @@ fn three_names(words: &[String]) -> Option<(&str, &str, &str)>
     None
 }
 
+/// Two names of files, and the options behind them.
+fn searched(words: &[String]) -> Option<(&str, &str, Options)>
+    ensures { option_map (λ n. (n.0.now, n.1.now, n.2)) result ≡ searched_in (map string_bytes words.now) }
+{
+    let [first, second, rest @ ..] = words else {
+        return None;
+    };
+    let first = first.as_str();
+    let second = second.as_str();
+    if !(is_name(first) && is_name(second)) {
+        return None;
+    }
+    let none = Options {
+        max: None,
+        nodes: None,
+        version: None,
+    };
+    let given = options_behind(none, rest)?;
+    Some((first, second, given))
+}
+
+/// What the words ask of `solve`, which has no version.
+fn solve_by(words: &[String]) -> Option<Command<'_>>
+    ensures { option_map asked_of result ≡ solve_in (map string_bytes words.now) }
+{
+    let (domain, problem, given) = searched(words)?;
+    match given.version {
+        None => Some(Command::Solve(domain, problem, budget_of(given))),
+        Some(_) => None,
+    }
+}
+
 /// What the words behind the first one ask of the command.
 fn command_by(verb: Verb, words: &[String]) -> Option<Command<'_>>
     ensures { option_map asked_of result ≡ asked_by verb (map string_bytes words.now) }
@@ -111,11 +143,12 @@ fn command_by(verb: Verb, words: &[String]) -> Option<Command<'_>>
             let (domain, problem, cert) = three_names(words)?;
             Some(Command::Check(domain, problem, cert))
         }
+        Verb::Solve => solve_by(words),
     }
 }
 
-/// What the words ask for; `None` where they are no words of a command.
-pub fn command_in(words: &[String]) -> Option<Command<'_>>
+/// The command of the words.
+fn read_command(words: &[String]) -> Option<Command<'_>>
     ensures { option_map asked_of result ≡ asked_in (map string_bytes words.now) }
 {
     let [first, rest @ ..] = words else {
@@ -123,4 +156,12 @@ pub fn command_in(words: &[String]) -> Option<Command<'_>>
     };
     let verb = verb_in(first.as_str())?;
     command_by(verb, rest)
+}
+
+/// What the words ask for; `None` where they are no words of a command.
+pub fn command_in(words: &[String]) -> Option<Command<'_>>
+    ensures asked { option_map asked_of result ≡ asked_in (map string_bytes words.now) }
+    ensures within { IfSome result (λ command. IsWithin (asked_of command)) }
+{
+    read_command(words)
 }

@@ -23,3 +23,9 @@ returns-in-Check-clause-performs g c = rw c.in-Check.is c.check_certificate.ensu
 
 pub returns-in-Check-clause-keeps : goal.returns-in-Check-clause-keeps
 returns-in-Check-clause-keeps g c = rw c.in-Check.is c.check_certificate.ensures.keeps
+
+pub returns-in-Solve-clause-performs : goal.returns-in-Solve-clause-performs
+returns-in-Solve-clause-performs g c = rw c.in-Solve.is c.solve.ensures.performs
+
+pub returns-in-Solve-clause-keeps : goal.returns-in-Solve-clause-keeps
+returns-in-Solve-clause-keeps g c = rw c.in-Solve.is c.solve.ensures.keeps

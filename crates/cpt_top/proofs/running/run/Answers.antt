@@ -10,7 +10,7 @@ returns-in-Some g c =
     let x : Call = call (g.L.Library.steady c.args.lib.now) (g.L.Library.faults c.args.lib.now) (g.L.Library.faults c.perform.new.lib) (output (g.K.Sink.faults c.args.out.now) (g.K.Sink.written c.args.out.now))
     (output (g.K.Sink.faults c.perform.new.out) (g.K.Sink.written c.perform.new.out)) c.perform.result in
     let k : AllKept (g.L.Library.holds c.args.lib.now) (map string_bytes c.args.words.now) (g.L.Library.left c.perform.new.lib) x =
-    command_kept (g.L.Library.holds c.args.lib.now) (map string_bytes c.args.words.now) (g.L.Library.left c.perform.new.lib) x (asked_of c.in-Some.command) (sym c.in-Some.ensures) c.perform.ensures.performs
+    command_kept (g.L.Library.holds c.args.lib.now) (map string_bytes c.args.words.now) (g.L.Library.left c.perform.new.lib) x (asked_of c.in-Some.command) (sym c.in-Some.ensures.asked) c.perform.ensures.performs
     c.perform.ensures.keeps c.perform.ensures.end in
     record {
       known = k.known;
@@ -31,6 +31,7 @@ returns-in-Some g c =
       validate = k.validate;
       ground = k.ground;
       check = k.check;
+      solve = k.solve;
     }
 
 pub returns-in-None : goal.returns-in-None
@@ -39,7 +40,7 @@ returns-in-None g c =
     (output (g.K.Sink.faults c.put_usage.new.out) (g.K.Sink.written c.put_usage.new.out)) c.put_usage.result in
     let k : AllKept (g.L.Library.holds c.args.lib.now) (map string_bytes c.args.words.now) (g.L.Library.left c.args.lib.now) x =
     usage_kept (g.L.Library.holds c.args.lib.now) (map string_bytes c.args.words.now) (g.L.Library.left c.args.lib.now) (g.L.Library.steady c.args.lib.now) (g.L.Library.faults c.args.lib.now)
-    (output (g.K.Sink.faults c.args.out.now) (g.K.Sink.written c.args.out.now)) (output (g.K.Sink.faults c.put_usage.new.out) (g.K.Sink.written c.put_usage.new.out)) c.put_usage.result (sym c.in-None.ensures) c.put_usage.ensures in
+    (output (g.K.Sink.faults c.args.out.now) (g.K.Sink.written c.args.out.now)) (output (g.K.Sink.faults c.put_usage.new.out) (g.K.Sink.written c.put_usage.new.out)) c.put_usage.result (sym c.in-None.ensures.asked) c.put_usage.ensures in
     record {
       known = k.known;
       only = k.only;
@@ -59,4 +60,5 @@ returns-in-None g c =
       validate = k.validate;
       ground = k.ground;
       check = k.check;
+      solve = k.solve;
     }

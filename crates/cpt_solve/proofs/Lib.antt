@@ -1,0 +1,4 @@
+pub mod Outcomes
+pub mod Telling
+pub mod Deciding
+pub mod Keeping
