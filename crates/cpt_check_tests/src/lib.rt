@@ -1,13 +1,7 @@
-//! Tests of certificates: their lines, their texts, and the walk of a tree.
+//! Tests of certificates as they are judged, whole and with one change.
 #![tactic(auto)]
 
 #[cfg(test)]
 mod judged;
 #[cfg(test)]
-mod lines;
-#[cfg(test)]
-mod printed;
-#[cfg(test)]
 mod scene;
-#[cfg(test)]
-mod walks;

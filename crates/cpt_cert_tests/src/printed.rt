@@ -6,14 +6,44 @@ ghost use Rattle.cpt_tables.specs.Shapes.{FitsPairs, FitsDists};
 ghost use Rattle.cpt_sheet.specs.Gaps.{FitsTask};
 ghost use Rattle.cpt_cert_print.specs.Whole.{IsWhole};
 
-use crate::scene::{KEY_TASK, task_of};
 use cpt_cert::{Cert, Claim, Version, cert_len, print_cert};
 use cpt_io::{MemSink, Sink};
 use cpt_sheet::{NodeLine, Tree};
 use cpt_tables::{DistTable, PairTable, Tables};
 use cpt_task::{List, Span, Task};
+use cpt_task_text::read_task;
 use std::alloc::Global;
 use std::test::Fail;
+
+/// A key that one action makes and two others use up.
+const KEY_TASK: &str = "task 3 3
+atom (k)
+atom (g1)
+atom (g2)
+action (u) 1
+pre
+add 0
+del
+action (v1) 2
+pre 0
+add 1
+del 0
+action (v2) 2
+pre 0
+add 2
+del 0
+init
+goal 1 2
+";
+
+/// The task that the text spells.
+fn task_of(alloc: Global, text: &str) -> Option<Task> {
+    let bytes = text.as_bytes();
+    if bytes.len() > 4096 {
+        return None;
+    }
+    read_task(alloc, bytes).ok()
+}
 
 fn put_pair(task: &Task, pairs: &mut PairTable, p: u32, q: u32, n: u64)
     requires fits { FitsPairs task.now pairs.old }
