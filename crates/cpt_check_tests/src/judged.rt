@@ -403,40 +403,73 @@ fn faults_of_plans_steps_and_goals(rt: HostRuntime) -> Result<(), Fail> {
     expect_faults(&rt, alloc, EASY_TASK, NEVER, Version::One, &HOLDS)
 }
 
-#[test]
-fn a_first_line_that_names_no_version(rt: HostRuntime) -> Result<(), Fail> {
-    let task = task_of(rt.alloc(), EASY_TASK).ok_or("task")?;
-    let other = text_of(rt.alloc(), EASY, Change::Line(1, "cpt 3"))?;
-    let none = rejected(None, 1, Why::Grammar);
-    let answer = judged(rt.alloc(), &task, other.as_slice(), 7, 1000);
-    assert_eq!(rt; answer, Some(Ok(none)));
-    let answer = judged(rt.alloc(), &task, b"cpt 1", 7, 1000);
-    assert_eq!(rt; answer, Some(Ok(none)));
-    let answer = judged(rt.alloc(), &task, b"", 7, 1000);
-    assert_eq!(rt; answer, Some(Ok(none)));
-    let named = rejected(Some(Version::One), 2, Why::Grammar);
-    let answer = judged(rt.alloc(), &task, b"cpt 1\n", 7, 1000);
-    assert_eq!(rt; answer, Some(Ok(named)));
+/// What is said of a text in pieces of at most so many bytes, of which at most so many are taken.
+fn expect_ruling(
+    rt: &impl Abort,
+    alloc: Global,
+    task: &Task,
+    text: &[u8],
+    limits: (usize, u64),
+    wanted: Judged,
+) -> Result<(), Fail>
+    requires piece { 1 ≤ limits.0 }
+    requires most { limits.1 ≤ 2 ^ 36 }
+{
+    let (piece, most) = limits;
+    let answer = judged(alloc, task, text, piece, most);
+    assert_eq!(rt; answer, Some(Ok(wanted)));
+    Ok(())
+}
+
+fn expect_too_long(
+    rt: &impl Abort,
+    alloc: Global,
+    task: &Task,
+    text: &[u8],
+    limits: (usize, u64),
+) -> Result<(), Fail>
+    requires piece { 1 ≤ limits.0 }
+    requires most { limits.1 ≤ 2 ^ 36 }
+{
+    let (piece, most) = limits;
+    let answer = judged(alloc, task, text, piece, most);
+    assert_eq!(rt; answer, Some(Err(CheckError::TooLong)));
     Ok(())
 }
 
 #[test]
+fn a_first_line_that_names_no_version(rt: HostRuntime) -> Result<(), Fail> {
+    let alloc = rt.alloc();
+    let task = task_of(alloc, EASY_TASK).ok_or("task")?;
+    let other = text_of(alloc, EASY, Change::Line(1, "cpt 3"))?;
+    let none = rejected(None, 1, Why::Grammar);
+    expect_ruling(&rt, alloc, &task, other.as_slice(), (7, 1000), none)?;
+    expect_ruling(&rt, alloc, &task, b"cpt 1", (7, 1000), none)?;
+    expect_ruling(&rt, alloc, &task, b"", (7, 1000), none)?;
+    let named = rejected(Some(Version::One), 2, Why::Grammar);
+    expect_ruling(&rt, alloc, &task, b"cpt 1\n", (7, 1000), named)
+}
+
+#[test]
 fn a_text_that_is_too_long(rt: HostRuntime) -> Result<(), Fail> {
-    let task = task_of(rt.alloc(), EASY_TASK).ok_or("task")?;
-    let text = text_of(rt.alloc(), EASY, Change::None)?;
+    let alloc = rt.alloc();
+    let task = task_of(alloc, EASY_TASK).ok_or("task")?;
+    let text = text_of(alloc, EASY, Change::None)?;
     let whole = accepted(Version::One, Claim::Optimal(0));
-    let answer = judged(rt.alloc(), &task, text.as_slice(), 7, 42);
-    assert_eq!(rt; answer, Some(Ok(whole)));
-    let answer = judged(rt.alloc(), &task, text.as_slice(), 7, 41);
-    assert_eq!(rt; answer, Some(Err(CheckError::TooLong)));
-    // A fault in a line that ends within the bytes that are taken is told.
-    let other = text_of(rt.alloc(), EASY, Change::Line(2, "claim optimal 01"))?;
+    expect_ruling(&rt, alloc, &task, text.as_slice(), (7, 42), whole)?;
+    expect_too_long(&rt, alloc, &task, text.as_slice(), (7, 41))
+}
+
+#[test]
+fn a_fault_in_a_line_that_ends_within_the_bytes_that_are_taken_is_told(
+    rt: HostRuntime,
+) -> Result<(), Fail> {
+    let alloc = rt.alloc();
+    let task = task_of(alloc, EASY_TASK).ok_or("task")?;
+    let other = text_of(alloc, EASY, Change::Line(2, "claim optimal 01"))?;
     let fault = rejected(Some(Version::One), 2, Why::Grammar);
-    let answer = judged(rt.alloc(), &task, other.as_slice(), 64, 23);
-    assert_eq!(rt; answer, Some(Ok(fault)));
-    let answer = judged(rt.alloc(), &task, other.as_slice(), 64, 22);
-    assert_eq!(rt; answer, Some(Err(CheckError::TooLong)));
-    Ok(())
+    expect_ruling(&rt, alloc, &task, other.as_slice(), (64, 23), fault)?;
+    expect_too_long(&rt, alloc, &task, other.as_slice(), (64, 22))
 }
 
 /// Over the first limit the text is too long, and over the next one its fault is told.
