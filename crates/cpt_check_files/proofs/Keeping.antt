@@ -1,4 +1,4 @@
-use Rattle.std.proofs.Common.{◌≡◌, ℕ, ◌⊎◌, inl, inr, List, Option, Result, Ok, IfSome, refl, sym, ap, ◌∙◌, subst, arith}
+use Rattle.std.proofs.Common.{◌≡◌, ℕ, inl, inr, List, Option, Result, IfSome, refl, sym, ap, ◌∙◌, subst, arith}
 use Rattle.std.specs.Io.KnownBytes.{append_known}
 use Rattle.cpt_io.specs.Meaning.{Files}
 use Rattle.cpt_answer.specs.declared.ending.Ending.{Ending}
@@ -11,7 +11,7 @@ use Rattle.cpt_check_files.specs.Rulings.{ChecksFiles, accepted_lines, rejected_
 use Rattle.cpt_check_files.proofs.Certified.{checked_is_zero, checks_files_once, checks_ruling, fault_is_one, holds_of_kept, holds_over_ground, holds_with_absence, one_is_fault, zero_is_checked}
 
 -- an answer that a file cannot be read has no such status
-not_read : (s : ℕ) → s ≡ 7 → IsRuling s → ⊥
+pub not_read : (s : ℕ) → s ≡ 7 → IsRuling s → ⊥
 not_read s seven h = elim h [ inl e ↦ omega (arith, e, seven) | inr k ↦ elim k [ inl e ↦ omega (arith, e, seven) | inr e ↦ omega (arith, e, seven) ] ]
 
 rulings : (P : Result Answer Ending → Type 0) → ((r : Result Answer Ending) → P r → IsRuling (answer_of r).status) → (a : Answer) → IsAnswerOf P a → IsRuling a.status

@@ -5,3 +5,4 @@ mod checking;
 mod rulings;
 
 pub use checking::check_certificate;
+pub use rulings::ruling_reply;

@@ -1,4 +1,4 @@
-use Rattle.std.specs.Prelude.{◌≡◌, ℕ, Bool, ◌||◌, if◌then◌else◌, nat_eq, List, [], ◌∷◌, map, codes, count_by}
+use Rattle.std.specs.Prelude.{◌≡◌, ◌≤◌, ℕ, All, Bool, ◌||◌, if◌then◌else◌, nat_eq, List, [], ◌∷◌, map, codes, count_by}
 use Rattle.std.specs.List.{starts_with}
 use Rattle.std.specs.Str.{bytes_eq}
 use Rattle.cpt_line.specs.Lines.{split}
@@ -40,3 +40,10 @@ pub record AreCounts (text : List ℕ) (counts : Counts) : Type 0 where
   pub branched : counts.branched ≡ count_begun (codes "branch ") (tree_lines text)
   pub left : counts.left ≡ count_same (codes "open") (tree_lines text)
   pub rules : counts.rules ≡ map (λ front. count_begun front (tree_lines text)) rule_fronts
+
+-- no number is above the most
+pub record AreFew (most : ℕ) (counts : Counts) : Type 0 where
+  pub closed : counts.closed ≤ most
+  pub branched : counts.branched ≤ most
+  pub left : counts.left ≤ most
+  pub rules : All (λ n. n ≤ most) counts.rules

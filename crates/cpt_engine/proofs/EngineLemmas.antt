@@ -1,5 +1,5 @@
 -- what always holds of an engine
-use Rattle.std.proofs.Common.{◌≡◌, ◌≢◌, ℕ, zero, suc, ◌+◌, ◌-◌, ◌≤◌, ◌<◌, List, [], ◌∷◌, ◌++◌, length, take, Option, Some, None, refl, sym, ◌∙◌, ap, subst, arith, inl, inr, ◌⊎◌, length-append}
+use Rattle.std.proofs.Common.{◌≡◌, ℕ, ◌+◌, ◌-◌, ◌≤◌, ◌<◌, List, [], ◌∷◌, ◌++◌, length, take, Option, Some, None, refl, sym, ◌∙◌, ap, subst, arith, length-append}
 use Rattle.std.proofs.lemmas.List.{same_from_push}
 use Rattle.std.proofs.Math.Seq.{take-append_seam, get_or-append_seam}
 use Rattle.std.proofs.Common.{get_or, drop, length-drop}
@@ -10,7 +10,7 @@ use Rattle.cpt_sheet.specs.declared.data.Step.{Step}
 use Rattle.cpt_sheet.specs.declared.data.Decision.{Decision}
 use Rattle.cpt_sheet.specs.Formed.{IsFormed}
 use Rattle.cpt_sheet.specs.Gaps.{FitsTask}
-use Rattle.cpt_calculus.specs.Closing.{ClosesTo, IsFresh}
+use Rattle.cpt_calculus.specs.Closing.{ClosesTo, IsClosed, IsFresh}
 use Rattle.cpt_calculus.specs.Closing.IsFresh.{at_root, decided}
 use Rattle.cpt_calculus.specs.Decisions.{Fits, applied}
 use Rattle.cpt_calculus.specs.Root.{root_of}
@@ -24,7 +24,7 @@ use Rattle.cpt_engine.specs.declared.state.State.{State}
 use Rattle.cpt_engine.specs.declared.state.State.TheVariants.{Alive, Dead}
 use Rattle.cpt_engine.specs.Engines.HasPast.{none, more}
 use Rattle.cpt_engine.specs.Engines.IsBeginning.{here, after}
-use Rattle.cpt_engine.specs.Engines.{EngineShape, IsBeginning, IsOutcome, IsReached, HasPast, Stands, IsRetracted, IsDecided, IsAsBefore, RetractionsGiveBack}
+use Rattle.cpt_engine.specs.Engines.{EngineShape, IsOutcome, IsReached, HasPast, Stands, IsRetracted, IsDecided, RetractionsGiveBack}
 use Rattle.cpt_engine.specs.Running.{HasLed, HasGrown, HasMark, IsSettledAs}
 
 outcome_of : (state : State) (rules : List ℕ) (t : TaskShape) (b : Tables) (bound : ℕ) (ds : List Decision) (s u : Sheet) (steps : List Step) →
@@ -267,6 +267,17 @@ give_back e f g d s m n alive h k =
       marks = sym r.0;
       state = k.state ∙ sym alive;
     }
+
+-- the sheet computed afresh is closed
+closed_fresh : (rules : List ℕ) (t : TaskShape) (b : Tables) (bound : ℕ) (ds : List Decision) (r : Option Sheet) (u : Sheet) → IsFresh rules t b bound ds r → r ≡ Some u → IsClosed rules t b u
+closed_fresh rules t b bound ds r u (at_root o c) e = (let k : ClosesTo rules t b (root_of t b bound) (Some u) = subst (λ z. ClosesTo rules t b (root_of t b bound) z) e c in k.end.closed)
+closed_fresh rules t b bound ds r u (decided es s d o f fit c) e = (let k : ClosesTo rules t b (applied t s d) (Some u) = subst (λ z. ClosesTo rules t b (applied t s d) z) e c in k.end.closed)
+
+-- the sheet of an engine that is alive is live and closed
+pub stands_closed : (rules : List ℕ) (e : EngineShape) → Stands rules e → e.state ≡ Alive → IsSettledAs Alive rules e.task e.tables e.sheet
+stands_closed rules e h alive =
+    let live : IsOutcome Alive rules e.task e.tables e.bound e.decisions e.sheet = subst (λ z. IsOutcome z rules e.task e.tables e.bound e.decisions e.sheet) alive h.reached.outcome in
+    (live.0, closed_fresh rules e.task e.tables e.bound e.decisions (Some e.sheet) e.sheet live.1 refl)
 
 -- the parts of a decision
 pub decided_parts : (e : EngineShape) (d : Decision) (ds : List Decision) (ns : List ℕ) (xs : List Step) (u : Sheet) (ms : List Mark) (state : State) (f : EngineShape) → e ≡ f →

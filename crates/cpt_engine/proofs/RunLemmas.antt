@@ -1,5 +1,5 @@
 -- steps until no one has any
-use Rattle.std.proofs.Common.{◌≡◌, ◌≢◌, ℕ, zero, suc, ◌+◌, ◌*◌, ◌≤◌, ◌<◌, List, [], ◌∷◌, ◌++◌, Bool, true, false, ◌||◌, length, refl, sym, ◌∙◌, ap, subst, arith, inl, inr, ◌⊎◌, append_assoc, take, length-append}
+use Rattle.std.proofs.Common.{Some, None, length-set, ◌≡◌, ◌≢◌, ℕ, suc, ◌+◌, ◌*◌, ◌≤◌, ◌<◌, List, [], ◌∷◌, ◌++◌, Bool, true, false, ◌||◌, length, refl, sym, ◌∙◌, ap, subst, arith, inl, inr, ◌⊎◌, append_assoc, take, length-append}
 use Rattle.std.proofs.lemmas.Bool.{cases_Bool, or_left, or_right, or_cases}
 use Rattle.std.proofs.lemmas.List.{same_from_push}
 use Rattle.std.proofs.lemmas.List.Elements.{length_all_zip}
@@ -15,33 +15,36 @@ use Rattle.cpt_sheet.specs.declared.data.Cand.{Cand}
 use Rattle.cpt_sheet.specs.declared.data.Cand.TheVariants.{Tok, Out}
 use Rattle.cpt_sheet.specs.declared.data.Sheet.{Sheet}
 use Rattle.cpt_sheet.specs.declared.data.Step.{Step}
-use Rattle.cpt_sheet.specs.declared.data.Step.TheVariants.{R1, R2, R3, R4, R5, R6, R7, R8, R9After, R9Ahead, R10, R11After, R11Ahead, R12After, R12Ahead, R13}
 use Rattle.cpt_sheet.specs.View.{has, same}
 use Rattle.cpt_sheet.specs.Below.{TokenBelow}
 use Rattle.cpt_sheet.specs.Formed.{IsFormed}
 use Rattle.cpt_sheet.specs.Live.{IsLive}
-use Rattle.cpt_calculus.specs.Rules.{IsLegal, change_of, narrowed, is_of}
+use Rattle.cpt_calculus.specs.Rules.{IsLegal, change_of, narrowed}
 use Rattle.cpt_calculus.specs.Closing.{IsClosed}
 use Rattle.cpt_calculus.proofs.Confluence.{down}
 use Rattle.cpt_calculus.proofs.Keeps.{step_formed}
 use Rattle.cpt_calculus.proofs.Parts.{same_is, same_self}
-use Rattle.cpt_steps.specs.Tight.{RunsTight, IsTight}
 use Rattle.cpt_steps.specs.Room.{room}
-use Rattle.cpt_steps.specs.Landing.{subject_of, IsThere, LandsAt, IsClosedAt}
+use Rattle.cpt_steps.specs.Landing.{subject_of, IsThere, IsClosedAt}
 use Rattle.cpt_waking.specs.Waking.{CanWake, StaysClosed, IsSettled}
 use Rattle.cpt_waking.proofs.GainLemmas.{unrelated_stays_closed}
 use Rattle.cpt_steps.proofs.LandingLemmas.{closed_where_all, same_change}
 use Rattle.cpt_steps.proofs.RunLemmas.{tight_runs_append}
 use Rattle.cpt_waking.proofs.SettleLemmas.{step_settles}
+use Rattle.cpt_waking.proofs.DecisionLemmas.{decision_wakes}
+use Rattle.cpt_waking.proofs.BringLemmas.{bring_wakes}
+use Rattle.cpt_calculus.proofs.Reading.{cand_there, tok_is}
+use Rattle.cpt_sheet.specs.declared.data.Change.TheVariants.{Take, Post}
+use Rattle.cpt_sheet.specs.declared.data.Decision.TheVariants.{Join, Bring, Before}
 use Rattle.cpt_steps.proofs.RoomLemmas.{steps_lessen}
 use Rattle.cpt_store.specs.Proposals.{IsProposed}
 use Rattle.cpt_store.specs.Stores.{Mark, KeepsMarks}
 use Rattle.cpt_store.specs.Stores.KeepsMarks.{same as as_before, newest}
-use Rattle.cpt_engine.specs.Agendas.{AgendaShape, Keeps, IsNext}
-use Rattle.cpt_engine.specs.Asked.{AreThere, IsAsked, IsWoken, IsFilled}
+use Rattle.cpt_agenda.specs.Agendas.{AgendaShape, IsNext}
+use Rattle.cpt_agenda.specs.Asked.{AreAsked, AreThere, CanAsk, IsAsked, IsWoken, NamesTokens, StirredBy}
 use Rattle.cpt_sheet.specs.Gaps.{FitsTask}
 use Rattle.cpt_store.specs.Stores.{StoreShape, IsBack, CanNarrow}
-use Rattle.cpt_engine.specs.Running.{HasLed, HasGrown, HasMark, IsRunning, IsOn, IsOff, work}
+use Rattle.cpt_engine.specs.Running.{HasLed, HasGrown, HasMark, IsAfter, IsRunning, IsOn, IsOff, work}
 
 -- who is stirred only where the table names it stays closed
 stays : (rules : List ℕ) (t : TaskShape) (b : Tables) (u : Sheet) (step : Step) (c : Cand) → IsFormed t u → subject_of (change_of u step) ≢ c →
@@ -131,7 +134,7 @@ module _ (rules : List ℕ) (t : TaskShape) (b : Tables) (s : Sheet) (step : Ste
               parts true y h = h
               parts false y h = refl
 
-          asked : (same c d || has d new.waiting) ≡ false → IsAsked rules t b (narrowed s step) step new d → StaysClosed rules t b (narrowed s step) step d
+          asked : (same c d || has d new.waiting) ≡ false → IsAsked rules t b (narrowed s step) (Some step) new d → StaysClosed rules t b (narrowed s step) step d
           asked h a =
               elim a [
                 | inl e ↦ absurd (let x : (same c d || has d new.waiting) ≡ true = or_right (same c d) (has d new.waiting) e in cc)
@@ -164,6 +167,16 @@ can_narrow s t b step e fits formed legal = record {
 
 pub formed_step : (t : TaskShape) (b : Tables) (s u : Sheet) (step : Step) → IsFormed t s → IsLegal t b s step → u ≡ narrowed s step → IsFormed t u
 formed_step t b s u step f l e = subst (λ z. IsFormed t z) (sym e) (step_formed t b s step f l)
+
+-- after a step subjects may be asked
+pub can_ask : (t : TaskShape) (b : Tables) (h g : StoreShape) (step : Step) (a : AgendaShape) → g.task ≡ t → FitsTask t b → IsFormed t h.sheet → IsLegal t b h.sheet step → g.sheet ≡ narrowed h.sheet step →
+    IsLive g.sheet → length h.sheet.tokens ≤ a.tokens → length t.actions ≤ a.acts → CanAsk t b g a
+can_ask t b h g step a e fit f legal i live n m = record {
+  lent = record { task = e; fits = fit; formed = formed_step t b h.sheet g.sheet step f legal i };
+  live = live;
+  tokens = (let k = same_count t b h.sheet step legal in let j = ap (λ (z : Sheet). length z.tokens) i in omega arith);
+  acts = m;
+}
 
 pub on_step : (rules : List ℕ) (t : TaskShape) (b : Tables) (s u : Sheet) (step : Step) (c : Cand) (old new : AgendaShape) → u ≡ narrowed s step → IsRunning rules t b s old (c ∷ old.waiting) → IsLive s →
     IsProposed rules t b s c step → IsLive u → IsWoken rules t b u step old new → IsOn rules t b c s u old new
@@ -255,7 +268,7 @@ closed_idle rules t b s a e r =
 
 -- at first all wait
 pub filled_running : (rules : List ℕ) (t : TaskShape) (b : Tables) (s : Sheet) (old new : AgendaShape) → FitsTask t b → IsFormed t s → length s.tokens ≤ 4200000000 → length s.tokens ≤ old.tokens → length t.actions ≤ old.acts →
-    old.waiting ≡ [] → IsFilled t s old new → IsRunning rules t b s new new.waiting
+    old.waiting ≡ [] → AreAsked rules t b s None (IsThere t s) old new → IsRunning rules t b s new new.waiting
 filled_running rules t b s old new fit f few tokens acts idle h = record {
   fits = fit;
   formed = f;
@@ -264,8 +277,52 @@ filled_running rules t b s old new fit f few tokens acts idle h = record {
   acts = (let k = h.keeps.acts in omega arith);
   within = h.within (let k = ap (λ (q : List Cand). length q) idle in omega arith);
   there = record { there = λ d w. elim (h.only d w) [ inl k ↦ k | inr k ↦ absurd (let e : has d old.waiting ≡ false = ap (λ q. has d q) idle in cc) ] };
-  settled = λ c there. inl (h.all c there);
+  settled = λ c there. elim (h.asked c there) [ inl e ↦ inl e | inr e ↦ absurd e ];
 }
+
+-- whom a decision does not stir has no step
+stirred_closed : (rules : List ℕ) (t : TaskShape) (b : Tables) (s : Sheet) (d : Decision) (c : Cand) → IsFormed t s → IsLive s → IsClosed rules t b s → Fits s d → IsThere t (applied t s d) c →
+    (StirredBy t (applied t s d) d c → ⊥) → IsClosedAt rules t b (applied t s d) c
+stirred_closed rules t b s (Join x p y) c f live closed fits there none =
+    decision_wakes rules t b s (Join x p y) (Take x p (Tok y)) c f live fits (refl, refl) (λ e. none (there, inl e)) (λ w. none (there, inr w)) (λ step r l lands. closed step r l)
+stirred_closed rules t b s (Before x y) (Tok z) f live closed fits there none =
+    decision_wakes rules t b s (Before x y) (Post x y) (Tok z) f live fits (refl, refl) (λ e. none (inl (tok_is x z e))) (λ w. none (inr w)) (λ step r l lands. closed step r l)
+stirred_closed rules t b s (Before x y) (Out a) f live closed fits there none =
+    decision_wakes rules t b s (Before x y) (Post x y) (Out a) f live fits (refl, refl) (λ e. cc) (λ w. w) (λ step r l lands. closed step r l)
+stirred_closed rules t b s (Bring x p a) (Tok z) f live closed fits there none = absurd (none there)
+stirred_closed rules t b s (Bring x p a) (Out o) f live closed fits there none =
+    bring_wakes rules t b s x p a o f live fits (λ k. none (there, inl k)) (λ k. none (there, inr k)) (λ step r l lands. closed step r l)
+
+-- after a decision those wait whom it stirs
+pub stirred_running : (rules : List ℕ) (t : TaskShape) (b : Tables) (d : Decision) (u : Sheet) (old new : AgendaShape) → IsAfter rules t b d u → FitsTask t b → IsFormed t u → length u.tokens ≤ 4200000000 →
+    length u.tokens ≤ old.tokens → length t.actions ≤ old.acts → old.waiting ≡ [] → AreAsked rules t b u None (StirredBy t u d) old new → IsRunning rules t b u new new.waiting
+stirred_running rules t b d u old new after fit f few tokens acts idle h = record {
+  fits = fit;
+  formed = f;
+  few = few;
+  tokens = (let k = h.keeps.tokens in omega arith);
+  acts = (let k = h.keeps.acts in omega arith);
+  within = h.within (let k = ap (λ (q : List Cand). length q) idle in omega arith);
+  there = record { there = λ c w. elim (h.only c w) [ inl k ↦ k | inr k ↦ absurd (let e : has c old.waiting ≡ false = ap (λ q. has c q) idle in cc) ] };
+  settled = λ c there. elim (cases_Bool (has c new.waiting)) [ inl e ↦ inl e | inr e ↦ inr (closed_at c there (λ w. waits c e (h.asked c w))) ];
+}
+  where
+    closed_at : (c : Cand) → IsThere t u c → (StirredBy t u d c → ⊥) → IsClosedAt rules t b u c
+    closed_at =
+        subst (λ (z : Sheet). (c : Cand) → IsThere t z c → (StirredBy t z d c → ⊥) → IsClosedAt rules t b z c) (sym after.after)
+        (λ c. stirred_closed rules t b after.before d c after.formed after.live after.closed after.fits)
+
+    waits : (c : Cand) → has c new.waiting ≡ false → IsAsked rules t b u None new c → ⊥
+    waits c e a = elim a [ inl k ↦ absurd (cc) | inr k ↦ k ]
+
+-- the tokens that a decision names are there after it
+pub names_after : (t : TaskShape) (s u : Sheet) (d : Decision) → u ≡ applied t s d → Fits s d → IsFormed t s → NamesTokens u d
+names_after t s u d e fits f = subst (λ (z : Sheet). NamesTokens z d) (sym e) (go d fits)
+  where
+    go : (d : Decision) → Fits s d → NamesTokens (applied t s d) d
+    go (Join x p y) h = let l = cand_there s x p (Tok y) h in let k : length (applied t s (Join x p y)).tokens ≡ length s.tokens = length-set s.tokens x _ in omega arith
+    go (Before x y) h = (h.first, h.second)
+    go (Bring x p a) h = tt
 
 -- after a mark the newest mark has the sheet
 pub has_mark : (s : Sheet) (old ms ns : List Mark) → KeepsMarks (old ++ record { sheet = s; written = 0 } ∷ []) ms → KeepsMarks ms ns → HasMark s old ns

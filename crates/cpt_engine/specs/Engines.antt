@@ -1,4 +1,4 @@
-use Rattle.std.specs.Prelude.{◌≡◌, ℕ, ◌+◌, ◌≤◌, List, [], ◌∷◌, ◌++◌, length, take, Option, Some, None}
+use Rattle.std.specs.Prelude.{◌≡◌, ℕ, ◌+◌, ◌≤◌, List, [], ◌∷◌, ◌++◌, length, take, Some, None}
 use Rattle.cpt_task.specs.Shape.{TaskShape}
 use Rattle.cpt_tables.specs.declared.tables.Tables.{Tables}
 use Rattle.cpt_sheet.specs.declared.data.Sheet.{Sheet}
@@ -12,6 +12,8 @@ use Rattle.cpt_calculus.specs.Decisions.{Fits, applied}
 use Rattle.cpt_calculus.specs.Root.{root_of}
 use Rattle.cpt_steps.specs.Tight.{RunsTight}
 use Rattle.cpt_store.specs.Stores.{Mark, StoreShape}
+use Rattle.cpt_agenda.specs.declared.users.Users.{Users}
+use Rattle.cpt_agenda.specs.Users.{AreUsersOf}
 use Rattle.cpt_engine.specs.declared.state.State.{State}
 use Rattle.cpt_engine.specs.declared.state.State.TheVariants.{Alive, Dead}
 use Rattle.cpt_engine.specs.Running.{HasGrown, HasMark}
@@ -68,10 +70,11 @@ pub record Stands (rules : List ℕ) (e : EngineShape) : Type 0 where
   pub history : HasPast rules e.task e.tables e.bound e.decisions e.starts past e.marks
   pub reached : IsReached e.state rules e.task e.tables e.bound e.decisions now e.sheet
 
--- what always holds of an engine and its store, which is of the engine's task
-pub record IsKept (rules : List ℕ) (s : StoreShape) (e : EngineShape) : Type 0 where
+-- what always holds of an engine, its store and its lists of actions, which are of the engine's task
+pub record IsKept (rules : List ℕ) (s : StoreShape) (u : Users) (e : EngineShape) : Type 0 where
   pub stands : Stands rules e
   pub task : s.task ≡ e.task
+  pub users : AreUsersOf e.task u
 
 -- a further decision stands
 pub record IsDecided (old : EngineShape) (d : Decision) (s : State) (new : EngineShape) : Type 0 where

@@ -1,22 +1,24 @@
-use Rattle.std.specs.Prelude.{◌≡◌, ℕ, ◌+◌, ◌*◌, ◌≤◌, ◌<◌, true, List, [], ◌∷◌, ◌++◌, length}
+use Rattle.std.specs.Prelude.{◌≡◌, ℕ, ◌+◌, ◌*◌, ◌≤◌, ◌<◌, List, [], ◌∷◌, ◌++◌, length}
 use Rattle.cpt_task.specs.Shape.{TaskShape}
 use Rattle.cpt_tables.specs.declared.tables.Tables.{Tables}
 use Rattle.cpt_sheet.specs.declared.data.Cand.{Cand}
 use Rattle.cpt_sheet.specs.declared.data.Sheet.{Sheet}
 use Rattle.cpt_sheet.specs.declared.data.Step.{Step}
+use Rattle.cpt_sheet.specs.declared.data.Decision.{Decision}
 use Rattle.cpt_sheet.specs.View.{has}
 use Rattle.cpt_sheet.specs.Formed.{IsFormed}
 use Rattle.cpt_sheet.specs.Gaps.{FitsTask}
 use Rattle.cpt_sheet.specs.Live.{IsLive, IsDead}
 use Rattle.cpt_calculus.specs.Closing.{IsClosed}
+use Rattle.cpt_calculus.specs.Decisions.{Fits, applied}
 use Rattle.cpt_steps.specs.Tight.{RunsTight}
 use Rattle.cpt_steps.specs.Room.{room}
 use Rattle.cpt_waking.specs.Waking.{IsSettled}
 use Rattle.cpt_engine.specs.declared.state.State.{State}
 use Rattle.cpt_engine.specs.declared.state.State.TheVariants.{Alive, Dead}
 use Rattle.cpt_store.specs.Stores.{Mark}
-use Rattle.cpt_engine.specs.Agendas.{AgendaShape}
-use Rattle.cpt_engine.specs.Asked.{AreThere}
+use Rattle.cpt_agenda.specs.Agendas.{AgendaShape}
+use Rattle.cpt_agenda.specs.Asked.{AreThere}
 
 -- steps, each legal and with the value of its row, were put behind the old ones, and lead from the one sheet to the other
 pub record HasLed (rules : List ℕ) (t : TaskShape) (b : Tables) (from to : Sheet) (old new : List Step) : Type 0 where
@@ -46,6 +48,15 @@ pub record IsRunning (rules : List ℕ) (t : TaskShape) (b : Tables) (s : Sheet)
 abbrev pub IsSettledAs : State → List ℕ → TaskShape → Tables → Sheet → Type 0
 IsSettledAs Alive rules t b s = IsLive s × IsClosed rules t b s
 IsSettledAs Dead rules t b s = IsDead s
+
+-- the sheet is the one after a decision at a live and closed sheet
+pub record IsAfter (rules : List ℕ) (t : TaskShape) (b : Tables) (d : Decision) (u : Sheet) : Type 0 where
+  pub before : Sheet
+  pub formed : IsFormed t before
+  pub live : IsLive before
+  pub closed : IsClosed rules t b before
+  pub fits : Fits before d
+  pub after : u ≡ applied t before d
 
 -- how much work is left, at most
 abbrev pub work : Sheet → ℕ → List Cand → ℕ

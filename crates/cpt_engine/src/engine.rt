@@ -7,9 +7,9 @@ ghost use Rattle.cpt_store.specs.Stores.{IsLent};
 ghost use Rattle.cpt_engine.specs.declared.state.State.TheVariants.{Alive};
 ghost use Rattle.cpt_engine.specs.Engines.{EngineShape, IsDecided, IsReached, IsReopened, IsRetracted, Stands};
 
-use crate::agenda::Agenda;
 use crate::running::{forward, start};
 use crate::state::State;
+use cpt_agenda::{Agenda, Users, users_of_task};
 use cpt_sheet::{Decision, Step};
 use cpt_store::{Ctx, Rule, Store};
 use cpt_tables::Tables;
@@ -35,6 +35,8 @@ pub struct Engine<'a, R: Rule + Copy> {
     task: &'a Task,
     tables: &'a Tables,
     rule: R,
+    users: Users,
+    agenda: Agenda,
     bound: u64,
     store: Store,
     decisions: Vec<Decision>,
@@ -51,7 +53,7 @@ impl<'a, R: Rule + Copy> Model for Engine<'a, R> {
 
     ghost view = { λ e. record { task = e.task.now; tables = e.tables.now; bound = e.bound; decisions = e.decisions.items; starts = e.starts.items; all_steps = e.steps.items; sheet = e.store.sheet; marks = e.store.marks; state = e.state; used = e.used } };
 
-    ghost invariant = { λ e. IsKept R.covers e.store (record { task = e.task.now; tables = e.tables.now; bound = e.bound; decisions = e.decisions.items; starts = e.starts.items; all_steps = e.steps.items; sheet = e.store.sheet; marks = e.store.marks; state = e.state; used = e.used }) };
+    ghost invariant = { λ e. IsKept R.covers e.store e.users (record { task = e.task.now; tables = e.tables.now; bound = e.bound; decisions = e.decisions.items; starts = e.starts.items; all_steps = e.steps.items; sheet = e.store.sheet; marks = e.store.marks; state = e.state; used = e.used }) };
 }
 
 impl<'a, R: Rule + Copy> Engine<'a, R> {
@@ -73,12 +75,16 @@ impl<'a, R: Rule + Copy> Engine<'a, R> {
         ensures stands { IfOk result (Stands R.covers) }
     {
         let ctx = Ctx { task, tables };
+        let users = users_of_task(alloc, task)?;
+        let mut agenda = Agenda::new(alloc, 2, task.actions().len())?;
         let mut steps = Vec::new(alloc);
         let (store, state) = start::<R, Brand>(
             alloc,
             &ctx,
             bound,
             &rule,
+            &users,
+            &mut agenda,
             &mut steps,
             Blank::new(1),
         )?;
@@ -87,6 +93,8 @@ impl<'a, R: Rule + Copy> Engine<'a, R> {
             task,
             tables,
             rule,
+            users,
+            agenda,
             bound,
             store,
             decisions: Vec::new(alloc),
@@ -110,7 +118,8 @@ impl<'a, R: Rule + Copy> Engine<'a, R> {
         self.decisions.reserve(1)?;
         self.starts.reserve(1)?;
         let count = self.store.tokens() as usize + 1;
-        let mut agenda = Agenda::new(self.alloc, count, self.task.actions().len())?;
+        self.agenda
+            .ready(self.alloc, count, self.task.actions().len())?;
         let ctx = Ctx {
             task: self.task,
             tables: self.tables,
@@ -121,7 +130,8 @@ impl<'a, R: Rule + Copy> Engine<'a, R> {
             &ctx,
             &mut self.store,
             &self.rule,
-            &mut agenda,
+            &self.users,
+            &mut self.agenda,
             &mut self.steps,
             &decision,
             Blank::new(1),
@@ -162,12 +172,15 @@ impl<'a, R: Rule + Copy> Engine<'a, R> {
             task: self.task,
             tables: self.tables,
         };
+        self.agenda.ready(self.alloc, 2, self.task.actions().len())?;
         let mut steps = Vec::new(self.alloc);
         let (store, state) = start::<R, Brand>(
             self.alloc,
             &ctx,
             bound,
             &self.rule,
+            &self.users,
+            &mut self.agenda,
             &mut steps,
             Blank::new(1),
         )?;

@@ -21,7 +21,7 @@ use Rattle.cpt_files.proofs.Once.{accepts_once}
 use Rattle.cpt_kept.specs.Kept.{StandsFor}
 use Rattle.cpt_outcome.specs.Outcomes.{SearchOutcome, budget_spent, never, none_up_to, optimal}
 use Rattle.cpt_outcome.proofs.OutcomeLemmas.{finds-none, finds-plans}
-use Rattle.cpt_words.specs.declared.options.Budget.{Budget}
+use Rattle.cpt_options.specs.declared.options.Budget.{Budget}
 use Rattle.cpt_solve.specs.Commands.{AnswersOutcome, HoldOutcome, SolvesFiles}
 use Rattle.cpt_solve.specs.Lines.{no_plan_line, no_plan_up_to_line, outcome_answer, plan_lines, refuted_lines}
 use Rattle.cpt_solve.specs.Searches.{HasSmallTrees, IsOutcome, full_search}

@@ -18,8 +18,8 @@ use Rattle.cpt_kept.specs.Kept.{StandsFor}
 use Rattle.cpt_kept.proofs.Standing.{stands_for}
 use Rattle.cpt_outcome.specs.Outcomes.{SearchOutcome, budget_spent, never, none_up_to, optimal}
 use Rattle.cpt_outcome.proofs.OutcomeLemmas.{spent-below-enough, spent-is-larger}
-use Rattle.cpt_words.specs.declared.options.Budget.{Budget}
-use Rattle.cpt_words.specs.Options.{IsBudget}
+use Rattle.cpt_options.specs.declared.options.Budget.{Budget}
+use Rattle.cpt_options.specs.Options.{IsBudget}
 use Rattle.cpt_solve.specs.Commands.{AnswersOutcome, HoldOutcome, IsDecided, SolvesFiles, SolvesProblem}
 use Rattle.cpt_solve.specs.Lines.{outcome_answer}
 use Rattle.cpt_solve.specs.Searches.{IsOutcome, full_search}

@@ -22,7 +22,7 @@ use Rattle.cpt_outcome.specs.Outcomes.{HasOutcome, IsPlanOfNode, IsSearchable, S
 use Rattle.cpt_outcome.proofs.NodeLemmas.{fresh-closed, fresh-same}
 use Rattle.cpt_outcome.proofs.OrderLemmas.{leaf-plans-valid}
 use Rattle.cpt_outcome.proofs.OutcomeLemmas.{one-outcome, outcomes-hold}
-use Rattle.cpt_words.specs.declared.options.Budget.{Budget}
+use Rattle.cpt_options.specs.declared.options.Budget.{Budget}
 use Rattle.cpt_solve.specs.Searches.{AreBestTables, HasPlan, IsOutcome, full_search}
 
 sets_of : (t : TaskShape) → IsPlain t → HasSets t

@@ -22,7 +22,7 @@ use Rattle.cpt_answer.specs.Promise.{Call, IsAnswerOf, IsUndisturbed}
 use Rattle.cpt_files.specs.Accepted.{AcceptsTask, IsAccepted}
 use Rattle.cpt_outcome.specs.Enough.{enough}
 use Rattle.cpt_outcome.specs.Outcomes.{SearchOutcome, budget_spent, never, none_up_to, optimal}
-use Rattle.cpt_words.specs.declared.options.Budget.{Budget}
+use Rattle.cpt_options.specs.declared.options.Budget.{Budget}
 use Rattle.cpt_solve.specs.Lines.{no_plan_line, no_plan_up_to_line, outcome_answer, plan_lines, refuted_lines}
 use Rattle.cpt_solve.specs.Searches.{HasLargeTree, HasSmallTrees, IsOutcome}
 

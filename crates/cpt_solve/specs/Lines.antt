@@ -6,7 +6,7 @@ use Rattle.cpt_plan_text.specs.Spelling.{plan_spelling}
 use Rattle.cpt_answer.specs.Endings.{Answer}
 use Rattle.cpt_answer.specs.Lines.{line_of}
 use Rattle.cpt_outcome.specs.Outcomes.{SearchOutcome, budget_spent, never, none_up_to, optimal}
-use Rattle.cpt_words.specs.declared.options.Budget.{Budget}
+use Rattle.cpt_options.specs.declared.options.Budget.{Budget}
 
 -- the line of a makespan
 abbrev pub makespan_line : ℕ → List ℕ

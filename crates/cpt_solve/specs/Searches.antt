@@ -9,7 +9,7 @@ use Rattle.cpt_calculus.specs.Rules.{all_rules}
 use Rattle.cpt_tree.specs.Counts.{HasMoreNodes}
 use Rattle.cpt_outcome.specs.Nodes.{SearchProblem, search_tree}
 use Rattle.cpt_outcome.specs.Outcomes.{HasOutcome, SearchOutcome, budget_spent, never, none_up_to, optimal}
-use Rattle.cpt_words.specs.declared.options.Budget.{Budget}
+use Rattle.cpt_options.specs.declared.options.Budget.{Budget}
 
 -- the best tables of a task: a value in each place, and finite ones below 10^15
 pub record AreBestTables (t : TaskShape) (b : Tables) : Type 0 where

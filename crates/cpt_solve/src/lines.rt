@@ -10,9 +10,9 @@ ghost use Rattle.cpt_solve.specs.Searches.{HasPlan};
 
 use cpt_answer::Reply;
 use cpt_line::push_decimal;
+use cpt_options::Budget;
 use cpt_search::Outcome;
 use cpt_task::{Occ, Task};
-use cpt_words::Budget;
 use std::alloc::{AllocError, Global};
 
 fn push_line(text: &mut Vec<u8>, task: &Task, o: &Occ) -> Result<(), AllocError>
@@ -104,7 +104,8 @@ fn outcome_text(
     }
 }
 
-fn outcome_status(found: &Outcome) -> u8
+/// The exit status at what the search found.
+pub fn outcome_status(found: &Outcome) -> u8
     ensures value { result ≡ outcome_status (outcome_of found.now) }
     ensures small { result ≤ 3 }
 {
@@ -117,7 +118,7 @@ fn outcome_status(found: &Outcome) -> u8
 }
 
 /// What is answered at the outcome of the search.
-pub(crate) fn outcome_reply(
+pub fn outcome_reply(
     alloc: Global,
     task: &Task,
     budget: Budget,

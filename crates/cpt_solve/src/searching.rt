@@ -4,12 +4,13 @@ ghost use Rattle.std.specs.Prelude.{◌≡◌, IfOk};
 ghost use Rattle.cpt_files.specs.Accepted.{IsSmall};
 ghost use Rattle.cpt_outcome.specs.Outcomes.{HasOutcome};
 ghost use Rattle.cpt_search.specs.Answers.{HasTrees, outcome_of};
-ghost use Rattle.cpt_words.specs.Options.{IsBudget};
+ghost use Rattle.cpt_options.specs.Options.{IsBudget};
 ghost use Rattle.cpt_solve.specs.Searches.{AreBestTables, full_search};
 
 use cpt_dist::dist_table;
 use cpt_engine::Engine;
 use cpt_h2::pair_table;
+use cpt_options::Budget;
 use cpt_order::OrderRules;
 use cpt_outside::OutsideRules;
 use cpt_search::{Outcome, search};
@@ -18,7 +19,6 @@ use cpt_support::SupportRules;
 use cpt_tables::Tables;
 use cpt_task::{Memory, Task};
 use cpt_threat::ThreatRules;
-use cpt_words::Budget;
 use std::alloc::Global;
 
 /// The best tables of the task.

@@ -6,7 +6,7 @@ ghost use Rattle.cpt_answer.specs.Giving.{Gives};
 ghost use Rattle.cpt_answer.specs.Promise.{AnswersOver, Performs, call};
 ghost use Rattle.cpt_answer.specs.Writing.{output};
 ghost use Rattle.cpt_files.specs.Accepted.{IsSmall};
-ghost use Rattle.cpt_words.specs.Options.{IsBudget};
+ghost use Rattle.cpt_options.specs.Options.{IsBudget};
 ghost use Rattle.cpt_outcome.specs.Outcomes.{HasOutcome};
 ghost use Rattle.cpt_search.specs.Answers.{outcome_of};
 ghost use Rattle.cpt_solve.specs.Commands.{AnswersOutcome, SolvesFiles, SolvesProblem};
@@ -17,10 +17,10 @@ use crate::searching::{best_tables, outcome_of_task};
 use cpt_answer::{Ending, Reply, tell};
 use cpt_files::accepted_in;
 use cpt_io::{Library, Sink};
+use cpt_options::Budget;
 use cpt_search::Outcome;
 use cpt_tables::Tables;
 use cpt_task::Task;
-use cpt_words::Budget;
 use std::alloc::Global;
 
 /// What is answered at what the search found.

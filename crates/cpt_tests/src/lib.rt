@@ -18,7 +18,11 @@ mod plans;
 #[cfg(test)]
 mod problems;
 #[cfg(test)]
+mod proving;
+#[cfg(test)]
 mod scene;
+#[cfg(test)]
+mod solving;
 #[cfg(test)]
 mod tasks;
 #[cfg(test)]

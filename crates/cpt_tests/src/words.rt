@@ -5,7 +5,7 @@ use std::test::Fail;
 
 #[test]
 fn words_that_ask_for_no_command_are_usage(rt: HostRuntime) -> Result<(), Fail> {
-    let lists: [&[&str]; 22] = [
+    let lists: [&[&str]; 32] = [
         &[],
         &["validate-task"],
         &["validate-task", "t"],
@@ -27,6 +27,16 @@ fn words_that_ask_for_no_command_are_usage(rt: HostRuntime) -> Result<(), Fail> 
         &["check", "t", "p", ""],
         &["check", "-t", "p", "p"],
         &["check", "t", "-p", "p"],
+        &["solve", "t"],
+        &["solve", "--max", "5", "t", "p"],
+        &["solve", "t", "p", "--max"],
+        &["solve", "t", "p", "--max", "007"],
+        &["solve", "t", "p", "--max", "+7"],
+        &["solve", "t", "p", "--max", "1000001"],
+        &["solve", "t", "p", "--nodes", "0"],
+        &["solve", "t", "p", "--nodes", "4000000001"],
+        &["solve", "t", "p", "--max", "5", "--max", "5"],
+        &["solve", "t", "p", "--cert", "1"],
         &["--help"],
     ];
     for words in lists {

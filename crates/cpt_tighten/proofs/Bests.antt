@@ -1,10 +1,10 @@
-use Rattle.std.proofs.Common.{◌≡◌, ℕ, zero, suc, ◌<◌, ◌≤◌, ◌==◌, ◌⊎◌, inl, inr, Bool, true, false, cond, ◌&&◌, ◌||◌, nat_lt, List, [], ◌∷◌, length, Option, None, Some, refl, sym, ap, ◌∙◌, subst, arith, Contains}
+use Rattle.std.proofs.Common.{◌≡◌, ℕ, zero, suc, ◌<◌, ◌≤◌, ◌==◌, ◌⊎◌, inl, inr, Bool, true, false, cond, ◌&&◌, ◌||◌, nat_lt, List, [], ◌∷◌, Option, None, Some, refl, sym, ap, ◌∙◌, subst, arith, Contains}
 use Rattle.std.proofs.lemmas.Bool.Decides.{nat_tests}
 use Rattle.cpt_task.specs.declared.plan.Occ.{Occ}
 use Rattle.cpt_task.specs.Shape.{TaskShape}
 use Rattle.cpt_task.specs.Timeline.{end_of, is_in, occurrence_at}
 use Rattle.cpt_tighten.specs.declared.moments.Finish.{Finish}
-use Rattle.cpt_tighten.specs.Best.{best_over, either, ends_later, entry, finish_of, later_of, moved, noted, IsBest, IsNoted}
+use Rattle.cpt_tighten.specs.Best.{best_over, either, ends_later, entry, finish_of, later_of, moved, IsBest, IsNoted}
 use Rattle.cpt_tighten.specs.Needs.{IsLatest, IsNoEarlier}
 use Rattle.cpt_tighten.proofs.Latest.{no_earlier_trans}
 use Rattle.cpt_tighten.proofs.Places.{in_from, in_to}

@@ -1,4 +1,4 @@
-use Rattle.std.proofs.Common.{◌≡◌, ◌≢◌, ℕ, zero, suc, ◌+◌, ◌<◌, ◌≤◌, ◌⊎◌, inl, inr, List, [], ◌∷◌, ◌++◌, reverse, length, Option, None, Some, refl, sym, ap, ◌∙◌, subst, arith, Contains}
+use Rattle.std.proofs.Common.{◌≡◌, ℕ, zero, suc, ◌<◌, ◌≤◌, ◌⊎◌, inl, inr, List, [], ◌∷◌, ◌++◌, reverse, length, Option, None, Some, refl, sym, ap, ◌∙◌, subst, arith}
 use Rattle.std.proofs.lemmas.List.{reverse-append}
 use Rattle.cpt_task.specs.declared.task.Action.{Action}
 use Rattle.cpt_task.specs.Judgeable.{IsJudgeable}
@@ -8,8 +8,8 @@ use Rattle.cpt_task.specs.Timeline.{action_of, end_of, makespan, occurrence_at, 
 use Rattle.cpt_tighten.specs.declared.moments.Finish.{Finish}
 use Rattle.cpt_tighten.specs.Best.{entry, IsBest}
 use Rattle.cpt_tighten.specs.Chains.{IsChain, IsLink, LeadsTo}
-use Rattle.cpt_tighten.specs.Links.{start_of, Descends, IsLinked, IsTightened, HasTrail, IsTrail, LinksBack, LinksTo}
-use Rattle.cpt_tighten.specs.Needs.{IsLatest, IsNeeded, IsNoEarlier}
+use Rattle.cpt_tighten.specs.Links.{Descends, IsLinked, IsTightened, HasTrail, IsTrail, LinksBack, LinksTo}
+use Rattle.cpt_tighten.specs.Needs.{IsLatest, IsNeeded}
 use Rattle.cpt_tighten.specs.Schedules.{IsEarliest, IsSchedule, KeepsNeeds}
 use Rattle.cpt_tighten.proofs.Latest.{at_most, compared}
 use Rattle.cpt_tighten.proofs.Places.{lasts, same_action}

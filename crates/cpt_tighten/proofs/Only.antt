@@ -1,13 +1,13 @@
-use Rattle.std.proofs.Common.{◌≡◌, ℕ, zero, suc, ◌+◌, ◌<◌, ◌≤◌, ◌⊎◌, inl, inr, List, [], ◌∷◌, ◌++◌, reverse, length, refl, sym, ap, ◌∙◌, subst, arith, append_assoc}
+use Rattle.std.proofs.Common.{◌≡◌, ℕ, suc, ◌<◌, ◌≤◌, ◌⊎◌, List, [], ◌∷◌, ◌++◌, reverse, length, refl, sym, ap, ◌∙◌, subst, arith, append_assoc}
 use Rattle.std.proofs.lemmas.List.{reverse-append, reverse-reverse}
 use Rattle.cpt_task.specs.declared.task.Action.{Action}
 use Rattle.cpt_task.specs.declared.plan.Occ.{Occ}
 use Rattle.cpt_task.specs.Shape.{TaskShape, InBounds}
 use Rattle.cpt_task.specs.Timeline.{action_of, end_of, occurrence_at, IsPlan}
-use Rattle.cpt_tighten.specs.Chains.{IsChain, IsLink, LeadsTo}
+use Rattle.cpt_tighten.specs.Chains.{IsLink, LeadsTo}
 use Rattle.cpt_tighten.specs.Laws.{OneChain, OneEarliest}
-use Rattle.cpt_tighten.specs.Needs.{IsLatest, IsNoEarlier}
-use Rattle.cpt_tighten.specs.Schedules.{IsEarliest, IsSchedule}
+use Rattle.cpt_tighten.specs.Needs.{IsLatest}
+use Rattle.cpt_tighten.specs.Schedules.{IsSchedule}
 use Rattle.cpt_tighten.proofs.Places.{lasts, same_action}
 
 -- two plans of one length with the same occurrences

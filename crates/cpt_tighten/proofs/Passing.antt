@@ -12,12 +12,12 @@ use Rattle.cpt_tighten.specs.Agenda.{event, HasPassed, IsAgenda}
 use Rattle.cpt_tighten.specs.Best.{entry, finish_of, IsBest, IsNoted}
 use Rattle.cpt_tighten.specs.Links.{start_of, waiting, AreRecorded, IsLinked, IsTightened, IsUnderway}
 use Rattle.cpt_tighten.specs.Needs.{IsNeeded}
-use Rattle.cpt_tighten.specs.Records.{best_of, IsBlank, IsSized, IsTaken}
+use Rattle.cpt_tighten.specs.Records.{best_of, IsBlank, IsTaken}
 use Rattle.cpt_tighten.specs.Schedules.{IsSchedule}
 use Rattle.cpt_tighten.proofs.Bests.{best_kept, best_same, noted_best}
 use Rattle.cpt_tighten.proofs.Latest.{compared}
 use Rattle.cpt_tighten.proofs.Places.{lasts, none, same_action}
-use Rattle.cpt_tighten.proofs.Timing.{ended_before, passed_all, passed_more, passed_now, passed_still, passed_within, started_before, Starts}
+use Rattle.cpt_tighten.proofs.Timing.{ended_before, passed_all, passed_more, passed_now, passed_still, started_before, Starts}
 use Rattle.cpt_tighten.proofs.Waiting.{needed_best}
 
 same_or_not : (a b : ℕ) → (a ≡ b) ⊎ (a ≢ b)

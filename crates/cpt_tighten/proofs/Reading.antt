@@ -1,4 +1,4 @@
-use Rattle.std.proofs.Common.{◌≡◌, ℕ, ◌+◌, ◌<◌, ◌≤◌, Bool, true, false, List, length, get_or, Option, None, Some, IfSome, refl, sym, ap, ◌∙◌, subst, arith, All, Contains}
+use Rattle.std.proofs.Common.{◌≡◌, ℕ, ◌+◌, ◌<◌, ◌≤◌, Bool, true, false, List, length, get_or, Option, None, Some, IfSome, sym, ap, ◌∙◌, subst, arith, All, Contains}
 use Rattle.std.specs.Prelude.{slice_set}
 use Rattle.std.proofs.lemmas.List.{get_or_default}
 use Rattle.cpt_task.specs.declared.plan.Occ.{Occ}
@@ -8,7 +8,7 @@ use Rattle.cpt_task.specs.Timeline.{action_of, occurrence_at}
 use Rattle.cpt_tighten.specs.declared.agenda.Event.{Event}
 use Rattle.cpt_tighten.specs.declared.moments.Finish.{Finish}
 use Rattle.cpt_tighten.specs.declared.records.Records.{Records}
-use Rattle.cpt_tighten.specs.Agenda.{event, moment, HasPassed, IsAgenda, IsEvent}
+use Rattle.cpt_tighten.specs.Agenda.{event, HasPassed, IsAgenda, IsEvent}
 use Rattle.cpt_tighten.specs.Best.{entry, finish_of, IsBest}
 use Rattle.cpt_tighten.specs.Links.{waiting, IsUnderway}
 use Rattle.cpt_tighten.specs.Records.{best_of, IsTaken}

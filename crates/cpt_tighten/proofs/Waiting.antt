@@ -1,18 +1,17 @@
-use Rattle.std.proofs.Common.{◌≡◌, ℕ, ◌<◌, ◌≤◌, ◌⊎◌, inl, inr, true, false, List, length, Option, None, Some, refl, sym, ap, ◌∙◌, subst, arith, Contains}
+use Rattle.std.proofs.Common.{ℕ, ◌<◌, ◌⊎◌, inl, inr, false, List, length, None, arith, Contains}
 use Rattle.cpt_task.specs.declared.task.Action.{Action}
 use Rattle.cpt_task.specs.declared.plan.Occ.{Occ}
 use Rattle.cpt_task.specs.Shape.{TaskShape}
 use Rattle.cpt_task.specs.Interference.{Interferes}
-use Rattle.cpt_task.specs.Timeline.{action_of, end_of, occurrence_at}
+use Rattle.cpt_task.specs.Timeline.{action_of, occurrence_at}
 use Rattle.cpt_tighten.specs.declared.agenda.Event.{Event}
-use Rattle.cpt_tighten.specs.declared.moments.Finish.{Finish}
 use Rattle.cpt_tighten.specs.declared.records.Records.{Records}
 use Rattle.cpt_tighten.specs.Agenda.{HasPassed}
 use Rattle.cpt_tighten.specs.Best.{best_over, entry, moved, IsBest}
 use Rattle.cpt_tighten.specs.Links.{AreRecorded}
-use Rattle.cpt_tighten.specs.Needs.{IsAdder, IsLastAdder, IsLatest, IsNeeded, Supports}
+use Rattle.cpt_tighten.specs.Needs.{IsAdder, IsLastAdder, IsNeeded}
 use Rattle.cpt_tighten.specs.Records.{best_of}
-use Rattle.cpt_tighten.proofs.Bests.{best_same, latest_same, moved_best, over_best, Among}
+use Rattle.cpt_tighten.proofs.Bests.{best_same, moved_best, over_best, Among}
 use Rattle.cpt_tighten.proofs.Timing.{ended_before, has_ended, passed_within, Starts}
 
 -- who has ended with the atom in a list

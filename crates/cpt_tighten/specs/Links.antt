@@ -1,7 +1,7 @@
-use Rattle.std.specs.Prelude.{◌≡◌, ℕ, ◌≤◌, ◌<◌, List, [], ◌∷◌, length, slice_set, Option, None, Some, Contains, reverse, true, false}
+use Rattle.std.specs.Prelude.{◌≡◌, ℕ, ◌≤◌, ◌<◌, List, [], ◌∷◌, length, Option, None, Some, Contains, reverse, true, false}
 use Rattle.cpt_task.specs.declared.plan.Occ.{Occ}
 use Rattle.cpt_task.specs.Shape.{TaskShape}
-use Rattle.cpt_task.specs.Timeline.{action_of, end_of, occurrence_at}
+use Rattle.cpt_task.specs.Timeline.{action_of, occurrence_at}
 use Rattle.cpt_tighten.specs.declared.agenda.Event.{Event}
 use Rattle.cpt_tighten.specs.declared.moments.Finish.{Finish}
 use Rattle.cpt_tighten.specs.declared.records.Records.{Records}

@@ -102,7 +102,7 @@ text_of_task finds t plan (Ok bytes) knows e =
     All-weaker (IsEarly t) (IsOccurrence t) (λ o early. early.occurrence) plan.occs sound.occs
 text_of_task finds t plan (Err ending) knows e = absurd (cc)
 
-plan_of_task : (files : Files) (finds : List ℕ → Found) (t : TaskShape) (name : List ℕ) (plan : PlanText) → KnowsActions finds (length t.actions) → plan_by files finds t name ≡ Ok plan → IsPlan t plan.occs
+pub plan_of_task : (files : Files) (finds : List ℕ → Found) (t : TaskShape) (name : List ℕ) (plan : PlanText) → KnowsActions finds (length t.actions) → plan_by files finds t name ≡ Ok plan → IsPlan t plan.occs
 plan_of_task files finds t name plan knows e = text_of_task finds t plan (text_under files name) knows e
 
 pub judged_is_zero : (files : Files) (dn pn n : List ℕ) (m : ℕ) → HoldJudgedPlan files dn pn n m → JudgesPlan files dn pn n (Ok (answer 0 (valid_line m)))

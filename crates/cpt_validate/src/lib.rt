@@ -5,3 +5,4 @@ mod validating;
 mod verdicts;
 
 pub use validating::{validate, validate_task};
+pub use verdicts::verdict_reply;

@@ -1,18 +1,19 @@
 use Rattle.std.proofs.Common.{◌≡◌, ◌⊎◌, inl, inr, ◌&&◌, ◌≤◌, ℕ, Bool, true, false, not, List, [], ◌∷◌, codes, Option, None, Some, refl, sym, ap, ◌∙◌, subst, arith}
 use Rattle.std.specs.Prelude.{IfSome, option_map, option_and_then, if◌then◌else◌, unwrap_or}
+use Rattle.std.specs.Fmt.{decimal}
 use Rattle.std.specs.Str.{bytes_eq}
 use Rattle.std.proofs.lemmas.Slice.Eq.{bytes_eq-Decides}
 use Rattle.cpt_cert_form.specs.declared.forms.Version.{Version}
 use Rattle.cpt_cert_form.specs.declared.forms.Version.TheVariants.{One, Two}
-use Rattle.cpt_words.specs.declared.options.Budget.{Budget}
-use Rattle.cpt_words.specs.declared.options.Options.{Options}
+use Rattle.cpt_options.specs.declared.options.Budget.{Budget}
+use Rattle.cpt_options.specs.declared.options.Options.{Options}
 use Rattle.cpt_words.specs.declared.words.Command.{Command}
 use Rattle.cpt_words.specs.declared.words.Verb.{Verb}
 use Rattle.cpt_words.specs.declared.words.Verb.TheVariants as verbs
-use Rattle.cpt_words.specs.Laws.{AsksChecking, AsksJudging, AsksListing, AsksSolving, AsksValidation, ReadsWords}
-use Rattle.cpt_words.specs.Options.{Gives, IsBudget, budget_of, max, no_options, nodes, nothing, one, options_behind, two, with_max, with_nodes, with_version}
-use Rattle.cpt_words.specs.Words.{Asked, IsWithin, asked_by, asked_in, asked_of, checking, is_file_name, judging, listing, searched_in, solved_as, solving, three_names, two_names, validation, verb_in, verb_word}
-use Rattle.cpt_words.proofs.Choosing.{gives_of, of_gives, taken}
+use Rattle.cpt_words.specs.Laws.{AsksBench, AsksChecking, AsksCounting, AsksExplaining, AsksExport, AsksJson, AsksJudging, AsksListing, AsksProving, AsksSolving, AsksTightening, AsksTrimming, AsksValidation, ReadsWords}
+use Rattle.cpt_options.specs.Options.{Gives, IsBudget, budget_of, max, no_options, nodes, nothing, number_within, one, options_behind, two, with_max, with_nodes, with_version}
+use Rattle.cpt_words.specs.Words.{Asked, IsWithin, asked_by, asked_in, asked_of, bench_in, benching, checking, counting, explaining, exporting, is_file_name, json_validation, judging, listing, proving, searched_in, solved_as, solving, three_names, tightening, trimming, two_names, validation, verb_in, verb_word}
+use Rattle.cpt_options.proofs.Choosing.{gives_of, number_within_is, number_within_of, of_gives, taken}
 
 -- the word is that of the command, or another one is looked for
 chosen_by : (t : Bool) (same : Type 0) (v u : Verb) (rest : Option Verb) → (t ≡ true → same) → if◌then◌else◌ {A = Option Verb} t (Some v) rest ≡ Some u → ((v ≡ u) × same) ⊎ (rest ≡ Some u)
@@ -31,7 +32,7 @@ or_later w u rest later h = elim h [ inl e ↦ e | inr k ↦ later k ]
 
 word_is : (w : List ℕ) (u : Verb) → verb_in w ≡ Some u → w ≡ verb_word u
 word_is w u h =
-    or_later w u _ (λ h. or_later w u _ (λ h. or_later w u _ (λ h. or_later w u _ (λ h. or_later w u _ (λ h. absurd (cc)) (chosen w verbs.Solve u _ h)) (chosen w verbs.Check u _ h)) (chosen w verbs.Ground u _ h)) (chosen w verbs.Validate u _ h)) (chosen w verbs.ValidateTask u _ h)
+    or_later w u _ (λ h. or_later w u _ (λ h. or_later w u _ (λ h. or_later w u _ (λ h. or_later w u _ (λ h. or_later w u _ (λ h. or_later w u _ (λ h. or_later w u _ (λ h. or_later w u _ (λ h. or_later w u _ (λ h. or_later w u _ (λ h. or_later w u _ (λ h. or_later w u _ (λ h. absurd (cc)) (chosen w verbs.Bench u _ h)) (chosen w verbs.ValidateJson u _ h)) (chosen w verbs.Export u _ h)) (chosen w verbs.ExplainCert u _ h)) (chosen w verbs.Explain u _ h)) (chosen w verbs.Tighten u _ h)) (chosen w verbs.Trim u _ h)) (chosen w verbs.Prove u _ h)) (chosen w verbs.Solve u _ h)) (chosen w verbs.Check u _ h)) (chosen w verbs.Ground u _ h)) (chosen w verbs.Validate u _ h)) (chosen w verbs.ValidateTask u _ h)
 
 -- names that are taken
 abbrev Pair : Type 0
@@ -125,6 +126,14 @@ verb_of (judging d p n) = verbs.Validate
 verb_of (listing d p) = verbs.Ground
 verb_of (checking d p c) = verbs.Check
 verb_of (solving d p budget) = verbs.Solve
+verb_of (proving d p budget version) = verbs.Prove
+verb_of (trimming d p c) = verbs.Trim
+verb_of (tightening d p n) = verbs.Tighten
+verb_of (explaining d p n) = verbs.Explain
+verb_of (counting d p c) = verbs.ExplainCert
+verb_of (exporting d p) = verbs.Export
+verb_of (json_validation t p) = verbs.ValidateJson
+verb_of (benching n) = verbs.Bench
 
 -- the budget of a search that is asked for
 abbrev budget_in : Asked → Budget
@@ -133,6 +142,14 @@ budget_in (judging d p n) = budget_of no_options
 budget_in (listing d p) = budget_of no_options
 budget_in (checking d p c) = budget_of no_options
 budget_in (solving d p budget) = budget
+budget_in (proving d p budget version) = budget
+budget_in (trimming d p c) = budget_of no_options
+budget_in (tightening d p n) = budget_of no_options
+budget_in (explaining d p n) = budget_of no_options
+budget_in (counting d p c) = budget_of no_options
+budget_in (exporting d p) = budget_of no_options
+budget_in (json_validation t p) = budget_of no_options
+budget_in (benching n) = budget_of no_options
 
 some_same : {A : Type 0} (x y : A) → Some x ≡ Some y → x ≡ y
 some_same x y h = cc
@@ -173,14 +190,44 @@ solved_is a b given (Some v) x h = absurd (cc)
 abbrev solve_of : Searched → Option Asked
 solve_of n = solved_as n.0 n.1 n.2 n.2.version
 
+abbrev prove_of : Searched → Option Asked
+prove_of n = Some (proving n.0 n.1 (budget_of n.2) (unwrap_or n.2.version Two))
+
 solve_verb : (o : Option Searched) (a : Asked) → option_and_then solve_of o ≡ Some a → verbs.Solve ≡ verb_of a
 solve_verb o a h =
     let n = taken {A = Searched} solve_of o a h in
     ap verb_of (solved_is n.0.0 n.0.1 n.0.2 n.0.2.version a n.2).1
 
+prove_verb : (o : Option Searched) (a : Asked) → option_and_then prove_of o ≡ Some a → verbs.Prove ≡ verb_of a
+prove_verb o a h =
+    let n = taken {A = Searched} prove_of o a h in
+    ap verb_of (some_same (proving n.0.0 n.0.1 (budget_of n.0.2) (unwrap_or n.0.2.version Two)) a n.2)
+
 mapped : {A : Type 0} (f : A → Asked) (v : Verb) (o : Option A) (a : Asked) → ((x : A) → verb_of (f x) ≡ v) → option_map f o ≡ Some a → (x : A) × (o ≡ Some x) × (f x ≡ a) × (verb_of a ≡ v)
 mapped f v (Some x) a of h = let e : f x ≡ a = cc in (x, refl, e, sym (ap verb_of e) ∙ of x)
 mapped f v None a of h = absurd (cc)
+
+-- what is asked of `bench`
+pub record IsBench (ws : List (List ℕ)) (a : Asked) : Type 0 where
+  pub size : ℕ
+  pub words_are : ws ≡ decimal size ∷ []
+  pub some : 1 ≤ size
+  pub few : size ≤ 40
+  pub is : benching size ≡ a
+
+is_bench : (ws : List (List ℕ)) (a : Asked) → bench_in ws ≡ Some a → IsBench ws a
+is_bench (w ∷ []) a h =
+    let x = mapped benching verbs.Bench (number_within 1 40 w) a (λ x. refl) h in
+    let n = number_within_is 1 40 w x.0 x.1 in
+    record { size = x.0; words_are = ap (λ y. y ∷ []) n.spelled; some = n.least_is; few = n.most_is; is = x.2 }
+is_bench [] a h = absurd (cc)
+is_bench (v ∷ w ∷ ws) a h = absurd (cc)
+
+bench_verb : (ws : List (List ℕ)) (a : Asked) → bench_in ws ≡ Some a → verbs.Bench ≡ verb_of a
+bench_verb ws a h = ap verb_of (is_bench ws a h).is
+
+bench_of : (n : ℕ) → 1 ≤ n → n ≤ 40 → bench_in (decimal n ∷ []) ≡ Some (benching n)
+bench_of n some few = ap (option_map benching) (number_within_of 1 40 n (omega arith) some few)
 
 asked_verb : (v : Verb) (ws : List (List ℕ)) (a : Asked) → asked_by v ws ≡ Some a → v ≡ verb_of a
 asked_verb verbs.ValidateTask ws a h = sym (mapped (λ n. validation n.0 n.1) verbs.ValidateTask (two_names ws) a (λ x. refl) h).3
@@ -188,6 +235,14 @@ asked_verb verbs.Validate ws a h = sym (mapped (λ n. judging n.0 n.1 n.2) verbs
 asked_verb verbs.Ground ws a h = sym (mapped (λ n. listing n.0 n.1) verbs.Ground (two_names ws) a (λ x. refl) h).3
 asked_verb verbs.Check ws a h = sym (mapped (λ n. checking n.0 n.1 n.2) verbs.Check (three_names ws) a (λ x. refl) h).3
 asked_verb verbs.Solve ws a h = solve_verb (searched_in ws) a h
+asked_verb verbs.Prove ws a h = prove_verb (searched_in ws) a h
+asked_verb verbs.Trim ws a h = sym (mapped (λ n. trimming n.0 n.1 n.2) verbs.Trim (three_names ws) a (λ x. refl) h).3
+asked_verb verbs.Tighten ws a h = sym (mapped (λ n. tightening n.0 n.1 n.2) verbs.Tighten (three_names ws) a (λ x. refl) h).3
+asked_verb verbs.Explain ws a h = sym (mapped (λ n. explaining n.0 n.1 n.2) verbs.Explain (three_names ws) a (λ x. refl) h).3
+asked_verb verbs.ExplainCert ws a h = sym (mapped (λ n. counting n.0 n.1 n.2) verbs.ExplainCert (three_names ws) a (λ x. refl) h).3
+asked_verb verbs.Export ws a h = sym (mapped (λ n. exporting n.0 n.1) verbs.Export (two_names ws) a (λ x. refl) h).3
+asked_verb verbs.ValidateJson ws a h = sym (mapped (λ n. json_validation n.0 n.1) verbs.ValidateJson (two_names ws) a (λ x. refl) h).3
+asked_verb verbs.Bench ws a h = bench_verb ws a h
 
 -- the first word is that of the command, and the others are its names
 pub record IsCall (words : List (List ℕ)) (a : Asked) : Type 0 where
@@ -233,6 +288,59 @@ asks_checking words d p c h =
     let are = three_are call.rest d p c (x.1 ∙ ap Some (triple_of x.0 d p c (cc x.2) (cc x.2) (cc x.2))) in
     record { words_are = call.words_are ∙ ap (λ ws. codes "check" ∷ ws) are.words_are; domain_named = are.first; problem_named = are.second; cert_named = are.third }
 
+asks_trimming : (words : List (List ℕ)) (d p c : List ℕ) → asked_in words ≡ Some (trimming d p c) → AsksTrimming words d p c
+asks_trimming words d p c h =
+    let call = is_call words (trimming d p c) h in
+    let x = mapped (λ n. trimming n.0 n.1 n.2) verbs.Trim (three_names call.rest) (trimming d p c) (λ x. refl) call.asks in
+    let are = three_are call.rest d p c (x.1 ∙ ap Some (triple_of x.0 d p c (cc x.2) (cc x.2) (cc x.2))) in
+    record { words_are = call.words_are ∙ ap (λ ws. codes "trim" ∷ ws) are.words_are; domain_named = are.first; problem_named = are.second; cert_named = are.third }
+
+asks_tightening : (words : List (List ℕ)) (d p n : List ℕ) → asked_in words ≡ Some (tightening d p n) → AsksTightening words d p n
+asks_tightening words d p n h =
+    let call = is_call words (tightening d p n) h in
+    let x = mapped (λ n. tightening n.0 n.1 n.2) verbs.Tighten (three_names call.rest) (tightening d p n) (λ x. refl) call.asks in
+    let are = three_are call.rest d p n (x.1 ∙ ap Some (triple_of x.0 d p n (cc x.2) (cc x.2) (cc x.2))) in
+    record { words_are = call.words_are ∙ ap (λ ws. codes "tighten" ∷ ws) are.words_are; domain_named = are.first; problem_named = are.second; plan_named = are.third }
+
+asks_explaining : (words : List (List ℕ)) (d p n : List ℕ) → asked_in words ≡ Some (explaining d p n) → AsksExplaining words d p n
+asks_explaining words d p n h =
+    let call = is_call words (explaining d p n) h in
+    let x = mapped (λ n. explaining n.0 n.1 n.2) verbs.Explain (three_names call.rest) (explaining d p n) (λ x. refl) call.asks in
+    let are = three_are call.rest d p n (x.1 ∙ ap Some (triple_of x.0 d p n (cc x.2) (cc x.2) (cc x.2))) in
+    record { words_are = call.words_are ∙ ap (λ ws. codes "explain" ∷ ws) are.words_are; domain_named = are.first; problem_named = are.second; plan_named = are.third }
+
+asks_counting : (words : List (List ℕ)) (d p c : List ℕ) → asked_in words ≡ Some (counting d p c) → AsksCounting words d p c
+asks_counting words d p c h =
+    let call = is_call words (counting d p c) h in
+    let x = mapped (λ n. counting n.0 n.1 n.2) verbs.ExplainCert (three_names call.rest) (counting d p c) (λ x. refl) call.asks in
+    let are = three_are call.rest d p c (x.1 ∙ ap Some (triple_of x.0 d p c (cc x.2) (cc x.2) (cc x.2))) in
+    record { words_are = call.words_are ∙ ap (λ ws. codes "explain-cert" ∷ ws) are.words_are; domain_named = are.first; problem_named = are.second; cert_named = are.third }
+
+asks_exporting : (words : List (List ℕ)) (d p : List ℕ) → asked_in words ≡ Some (exporting d p) → AsksExport words d p
+asks_exporting words d p h =
+    let call = is_call words (exporting d p) h in
+    let x = mapped (λ n. exporting n.0 n.1) verbs.Export (two_names call.rest) (exporting d p) (λ x. refl) call.asks in
+    let are = two_are call.rest d p (x.1 ∙ ap Some (pair_of x.0 d p (cc x.2) (cc x.2))) in
+    record { words_are = call.words_are ∙ ap (λ ws. codes "export" ∷ ws) are.words_are; domain_named = are.first; problem_named = are.second }
+
+asks_json_validation : (words : List (List ℕ)) (t p : List ℕ) → asked_in words ≡ Some (json_validation t p) → AsksJson words t p
+asks_json_validation words t p h =
+    let call = is_call words (json_validation t p) h in
+    let x = mapped (λ n. json_validation n.0 n.1) verbs.ValidateJson (two_names call.rest) (json_validation t p) (λ x. refl) call.asks in
+    let are = two_are call.rest t p (x.1 ∙ ap Some (pair_of x.0 t p (cc x.2) (cc x.2))) in
+    record { words_are = call.words_are ∙ ap (λ ws. codes "validate-json" ∷ ws) are.words_are; task_named = are.first; plan_named = are.second }
+
+abbrev size_of : Asked → ℕ
+size_of (benching n) = n
+size_of a = 0
+
+asks_benching : (words : List (List ℕ)) (n : ℕ) → asked_in words ≡ Some (benching n) → AsksBench words n
+asks_benching words n h =
+    let call = is_call words (benching n) h in
+    let k = is_bench call.rest (benching n) call.asks in
+    let same : k.size ≡ n = ap size_of k.is in
+    record { words_are = call.words_are ∙ ap (λ ws. codes "bench" ∷ ws) k.words_are ∙ ap (λ n. codes "bench" ∷ decimal n ∷ []) same; some = subst (λ n. 1 ≤ n) same k.some; few = subst (λ n. n ≤ 40) same k.few }
+
 asks_solving : (words : List (List ℕ)) (d p : List ℕ) (budget : Budget) → asked_in words ≡ Some (solving d p budget) → AsksSolving words d p budget
 asks_solving words d p budget h =
     let call = is_call words (solving d p budget) h in
@@ -252,10 +360,34 @@ asks_solving words d p budget h =
       is = sym (ap budget_in s.1);
     }
 
+asks_proving : (words : List (List ℕ)) (d p : List ℕ) (budget : Budget) (version : Version) → asked_in words ≡ Some (proving d p budget version) → AsksProving words d p budget version
+asks_proving words d p budget version h =
+    let call = is_call words (proving d p budget version) h in
+    let n = taken {A = Searched} prove_of (searched_in call.rest) (proving d p budget version) call.asks in
+    let s : proving n.0.0 n.0.1 (budget_of n.0.2) (unwrap_or n.0.2.version Two) ≡ proving d p budget version = some_same (proving n.0.0 n.0.1 (budget_of n.0.2) (unwrap_or n.0.2.version Two)) (proving d p budget version) n.2 in
+    let are = searched_are call.rest n.0 n.1 in
+    let first : n.0.0 ≡ d = cc s in
+    let second : n.0.1 ≡ p = cc s in
+    record {
+      options = are.options;
+      given = n.0.2;
+      words_are = call.words_are ∙ ap (λ ws. codes "prove" ∷ ws) (are.words_are ∙ ap (λ x. x ∷ n.0.1 ∷ are.options) first ∙ ap (λ x. d ∷ x ∷ are.options) second);
+      domain_named = subst (λ n. is_file_name n ≡ true) first are.first;
+      problem_named = subst (λ n. is_file_name n ≡ true) second are.second;
+      gives = are.gives;
+      is = sym (ap budget_in s);
+      version_is = cc s;
+    }
+
 solves : (words : List (List ℕ)) (d p : List ℕ) (budget : Budget) → AsksSolving words d p budget → asked_in words ≡ Some (solving d p budget)
 solves words d p budget asks =
     let solved : solved_as d p asks.given asks.given.version ≡ Some (solving d p (budget_of asks.given)) = ap (solved_as d p asks.given) asks.no_version in
     ap asked_in asks.words_are ∙ ap (option_and_then solve_of) (searched_of d p asks.options asks.given asks.domain_named asks.problem_named asks.gives) ∙ solved ∙ ap (λ b. Some (solving d p b)) (sym asks.is)
+
+proves : (words : List (List ℕ)) (d p : List ℕ) (budget : Budget) (version : Version) → AsksProving words d p budget version → asked_in words ≡ Some (proving d p budget version)
+proves words d p budget version asks =
+    ap asked_in asks.words_are ∙ ap (option_and_then prove_of) (searched_of d p asks.options asks.given asks.domain_named asks.problem_named asks.gives) ∙ ap (λ b. Some (proving d p b (unwrap_or asks.given.version Two))) (sym asks.is)
+    ∙ ap (λ v. Some (proving d p budget v)) (sym asks.version_is)
 
 pub reads_words : ReadsWords
 reads_words = record {
@@ -264,6 +396,14 @@ reads_words = record {
   listing = λ words d p. (asks_listing words d p, λ asks. ap asked_in asks.words_are ∙ ap (option_map (λ n. listing n.0 n.1)) (two_taken d p asks.domain_named asks.problem_named));
   checking = λ words d p c. (asks_checking words d p c, λ asks. ap asked_in asks.words_are ∙ ap (option_map (λ n. checking n.0 n.1 n.2)) (three_taken d p c asks.domain_named asks.problem_named asks.cert_named));
   solving = λ words d p budget. (asks_solving words d p budget, solves words d p budget);
+  proving = λ words d p budget version. (asks_proving words d p budget version, proves words d p budget version);
+  trimming = λ words d p c. (asks_trimming words d p c, λ asks. ap asked_in asks.words_are ∙ ap (option_map (λ n. trimming n.0 n.1 n.2)) (three_taken d p c asks.domain_named asks.problem_named asks.cert_named));
+  tightening = λ words d p n. (asks_tightening words d p n, λ asks. ap asked_in asks.words_are ∙ ap (option_map (λ n. tightening n.0 n.1 n.2)) (three_taken d p n asks.domain_named asks.problem_named asks.plan_named));
+  explaining = λ words d p n. (asks_explaining words d p n, λ asks. ap asked_in asks.words_are ∙ ap (option_map (λ n. explaining n.0 n.1 n.2)) (three_taken d p n asks.domain_named asks.problem_named asks.plan_named));
+  counting = λ words d p c. (asks_counting words d p c, λ asks. ap asked_in asks.words_are ∙ ap (option_map (λ n. counting n.0 n.1 n.2)) (three_taken d p c asks.domain_named asks.problem_named asks.cert_named));
+  exporting = λ words d p. (asks_exporting words d p, λ asks. ap asked_in asks.words_are ∙ ap (option_map (λ n. exporting n.0 n.1)) (two_taken d p asks.domain_named asks.problem_named));
+  json_validation = λ words t p. (asks_json_validation words t p, λ asks. ap asked_in asks.words_are ∙ ap (option_map (λ n. json_validation n.0 n.1)) (two_taken t p asks.task_named asks.plan_named));
+  benching = λ words n. (asks_benching words n, λ asks. ap asked_in asks.words_are ∙ bench_of n asks.some asks.few);
 }
 
 -- options that keep their limits
@@ -295,8 +435,18 @@ is_within words (validation t p) h = tt
 is_within words (judging d p n) h = tt
 is_within words (listing d p) h = tt
 is_within words (checking d p c) h = tt
+is_within words (benching n) h = let asks = asks_benching words n h in (asks.some, asks.few)
+is_within words (json_validation t p) h = tt
+is_within words (exporting d p) h = tt
+is_within words (counting d p c) h = tt
+is_within words (explaining d p n) h = tt
+is_within words (tightening d p n) h = tt
+is_within words (trimming d p c) h = tt
 is_within words (solving d p budget) h =
     let asks = asks_solving words d p budget h in
+    subst IsBudget (sym asks.is) (is_budget asks.given (limited asks.given no_options asks.options (record { max = tt; nodes = tt }) asks.gives))
+is_within words (proving d p budget version) h =
+    let asks = asks_proving words d p budget version h in
     subst IsBudget (sym asks.is) (is_budget asks.given (limited asks.given no_options asks.options (record { max = tt; nodes = tt }) asks.gives))
 
 pub within_of : (o : Option Command) (words : List (List ℕ)) → option_map asked_of o ≡ asked_in words → IfSome o (λ command. IsWithin (asked_of command))

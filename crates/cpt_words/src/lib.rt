@@ -2,9 +2,7 @@
 #![tactic(auto)]
 
 mod laws;
-mod options;
 mod words;
 
 pub use laws::words_are_read_so;
-pub use options::{Budget, Options};
 pub use words::{Command, command_in};

@@ -1,9 +1,10 @@
 //! What the words ask for.
 
 ghost use Rattle.std.specs.Prelude.{◌≡◌, map, option_map, string_bytes, IfSome};
-ghost use Rattle.cpt_words.specs.Words.{IsWithin, asked_by, asked_in, asked_of, is_file_name, searched_in, solve_in, three_names, two_names, verb_in};
+ghost use Rattle.cpt_words.specs.Words.{IsWithin, asked_by, asked_in, asked_of, bench_in, is_file_name, prove_in, searched_in, solve_in, three_names, two_names, verb_in};
 
-use crate::options::{Budget, Options, budget_of, is_word, options_behind};
+use cpt_cert_form::Version;
+use cpt_options::{Budget, Options, budget_of, is_word, number_within, options_behind};
 
 /// What the words ask for, with the names of its files.
 #[derive(Clone, Copy)]
@@ -18,6 +19,22 @@ pub enum Command<'a> {
     Check(&'a str, &'a str, &'a str),
     /// To find a plan of least makespan for the domain and the problem.
     Solve(&'a str, &'a str, Budget),
+    /// To write the certificate of the same search in this version.
+    Prove(&'a str, &'a str, Budget, Version),
+    /// To trim the certificate of the third name over the domain and the problem of the first two.
+    Trim(&'a str, &'a str, &'a str),
+    /// To tighten the plan of the third name over the domain and the problem of the first two.
+    Tighten(&'a str, &'a str, &'a str),
+    /// To tell each fault of the plan of the third name over the domain and the problem of the first two.
+    Explain(&'a str, &'a str, &'a str),
+    /// To check the certificate of the third name over the domain and the problem of the first two, and to count its lines.
+    ExplainCert(&'a str, &'a str, &'a str),
+    /// To write the kept task of the domain and the problem as JSON.
+    Export(&'a str, &'a str),
+    /// To judge the plan of the second name over the task of the first, both in JSON.
+    ValidateJson(&'a str, &'a str),
+    /// To make the problem of this size, to solve it and to check the certificate of its plan.
+    Bench(u32),
 }
 
 /// A command without the names of its files.
@@ -28,6 +45,14 @@ pub enum Verb {
     Ground,
     Check,
     Solve,
+    Prove,
+    Trim,
+    Tighten,
+    Explain,
+    ExplainCert,
+    Export,
+    ValidateJson,
+    Bench,
 }
 
 /// Whether the word is a name and no option.
@@ -54,6 +79,22 @@ fn verb_in(word: &str) -> Option<Verb>
         Some(Verb::Check)
     } else if is_word(word, "solve") {
         Some(Verb::Solve)
+    } else if is_word(word, "prove") {
+        Some(Verb::Prove)
+    } else if is_word(word, "trim") {
+        Some(Verb::Trim)
+    } else if is_word(word, "tighten") {
+        Some(Verb::Tighten)
+    } else if is_word(word, "explain") {
+        Some(Verb::Explain)
+    } else if is_word(word, "explain-cert") {
+        Some(Verb::ExplainCert)
+    } else if is_word(word, "export") {
+        Some(Verb::Export)
+    } else if is_word(word, "validate-json") {
+        Some(Verb::ValidateJson)
+    } else if is_word(word, "bench") {
+        Some(Verb::Bench)
     } else {
         None
     }
@@ -122,6 +163,26 @@ fn solve_by(words: &[String]) -> Option<Command<'_>>
     }
 }
 
+/// What the words ask of `prove`: the second version, where none is given.
+fn prove_by(words: &[String]) -> Option<Command<'_>>
+    ensures { option_map asked_of result ≡ prove_in (map string_bytes words.now) }
+{
+    let (domain, problem, given) = searched(words)?;
+    let version = given.version.unwrap_or(Version::Two);
+    Some(Command::Prove(domain, problem, budget_of(given), version))
+}
+
+/// The size of a made problem, and nothing else.
+fn bench_by(words: &[String]) -> Option<Command<'_>>
+    ensures { option_map asked_of result ≡ bench_in (map string_bytes words.now) }
+{
+    let [word] = words else {
+        return None;
+    };
+    let n = number_within(1, 40, word.as_str())?;
+    Some(Command::Bench(n as u32))
+}
+
 /// What the words behind the first one ask of the command.
 fn command_by(verb: Verb, words: &[String]) -> Option<Command<'_>>
     ensures { option_map asked_of result ≡ asked_by verb (map string_bytes words.now) }
@@ -144,6 +205,32 @@ fn command_by(verb: Verb, words: &[String]) -> Option<Command<'_>>
             Some(Command::Check(domain, problem, cert))
         }
         Verb::Solve => solve_by(words),
+        Verb::Prove => prove_by(words),
+        Verb::Trim => {
+            let (domain, problem, cert) = three_names(words)?;
+            Some(Command::Trim(domain, problem, cert))
+        }
+        Verb::Tighten => {
+            let (domain, problem, plan) = three_names(words)?;
+            Some(Command::Tighten(domain, problem, plan))
+        }
+        Verb::Explain => {
+            let (domain, problem, plan) = three_names(words)?;
+            Some(Command::Explain(domain, problem, plan))
+        }
+        Verb::ExplainCert => {
+            let (domain, problem, cert) = three_names(words)?;
+            Some(Command::ExplainCert(domain, problem, cert))
+        }
+        Verb::Export => {
+            let (domain, problem) = two_names(words)?;
+            Some(Command::Export(domain, problem))
+        }
+        Verb::ValidateJson => {
+            let (task, plan) = two_names(words)?;
+            Some(Command::ValidateJson(task, plan))
+        }
+        Verb::Bench => bench_by(words),
     }
 }
 

@@ -2,7 +2,6 @@ use Rattle.std.proofs.Common.{true}
 use Rattle.cpt_check_files.proofs.CheckingFiles.{checked_files}
 use Rattle.cpt_answer.proofs.Giving.{told_before}
 use Rattle.cpt_check_files.proofs.Ends.{reply_end}
-use Rattle.cpt_check_files.specs.Rulings.{ruling_status}
 use Rattle.cpt_check_files.proofs.checking.check_files.Goals as goal
 
 pub returns-clause-answer : goal.returns-clause-answer

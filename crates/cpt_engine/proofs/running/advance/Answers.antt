@@ -1,16 +1,14 @@
 use Rattle.std.proofs.Common.{◌∙◌}
-use Rattle.cpt_engine.proofs.RunLemmas.{can_narrow, led_step, formed_step, on_step}
+use Rattle.cpt_engine.proofs.RunLemmas.{can_ask, can_narrow, led_step, on_step}
 use Rattle.cpt_engine.proofs.running.advance.Goals as goal
 
 pub returns-then-dead-clause-led : goal.returns-then-dead-clause-led
 returns-then-dead-clause-led g c = led_step _ _ _ _ _ c.args.subject c.args.step _ _ c.requires.running.formed c.requires.proposal c.narrow.ensures.sheet c.in_ok-push.ensures.items
 
-pub wake-requires-clause-lent : goal.wake-requires-clause-lent
-wake-requires-clause-lent g c = record {
-  task = c.narrow.ensures.task ∙ c.requires.task;
-  fits = c.requires.running.fits;
-  formed = formed_step _ _ _ _ c.args.step c.requires.running.formed c.requires.proposal.legal c.narrow.ensures.sheet;
-}
+pub wake-requires-clause-can : goal.wake-requires-clause-can
+wake-requires-clause-can g c =
+    can_ask _ _ c.args.store.now _ c.args.step _ (c.narrow.ensures.task ∙ c.requires.task) c.requires.running.fits c.requires.running.formed c.requires.proposal.legal c.narrow.ensures.sheet c.if-dead.ensures
+    c.requires.running.tokens c.requires.running.acts
 
 pub narrow-requires : goal.narrow-requires
 narrow-requires g c = can_narrow c.args.store.now _ _ c.args.step c.requires.task c.requires.running.fits c.requires.running.formed c.requires.proposal.legal

@@ -4,11 +4,21 @@ use Rattle.cpt_sheet.specs.Formed.{IsFormed}
 use Rattle.cpt_engine.proofs.RunLemmas.{has_mark, mark_count, back_marks, back_sheet, grown_back, applied_is, formed_applied, count_applied, led_from, marks_from}
 use Rattle.cpt_engine.proofs.running.forward.Goals as goal
 
-pub propagate-requires-clause-lent : goal.propagate-requires-clause-lent
-propagate-requires-clause-lent g c = record {
+pub settle-requires-clause-lent : goal.settle-requires-clause-lent
+settle-requires-clause-lent g c = record {
   task = c.apply.ensures.task ∙ (c.mark-mark.ensures.task ∙ c.requires.lent.task);
   fits = c.requires.lent.fits;
   formed = formed_applied c.args.ctx.now.task.now _ c.args.store.now.sheet c.args.decision.now (applied_is c.args.ctx.now.task.now _ _ _ c.args.decision.now c.apply.ensures.sheet c.mark-mark.ensures.sheet) c.requires.fits c.requires.lent.formed;
+}
+
+pub settle-requires-clause-after : goal.settle-requires-clause-after
+settle-requires-clause-after g c = record {
+  before = c.args.store.now.sheet;
+  formed = c.requires.lent.formed;
+  live = c.requires.closed.0;
+  closed = c.requires.closed.1;
+  fits = c.requires.fits;
+  after = applied_is c.args.ctx.now.task.now _ _ _ c.args.decision.now c.apply.ensures.sheet c.mark-mark.ensures.sheet;
 }
 
 pub apply-requires-clause-lent : goal.apply-requires-clause-lent
@@ -21,12 +31,12 @@ apply-requires-clause-lent g c = record {
 pub apply-requires-clause-ready : goal.apply-requires-clause-ready
 apply-requires-clause-ready g c = record { task = c.mark-mark.ensures.task ∙ c.requires.ready.task; ready = c.mark-mark.ensures.ready ∙ c.requires.ready.ready }
 
-pub propagate-requires-clause-few : goal.propagate-requires-clause-few
-propagate-requires-clause-few g c =
+pub settle-requires-clause-few : goal.settle-requires-clause-few
+settle-requires-clause-few g c =
     count_applied c.args.ctx.now.task.now _ c.args.store.now.sheet c.args.decision.now _ (applied_is c.args.ctx.now.task.now _ _ _ c.args.decision.now c.apply.ensures.sheet c.mark-mark.ensures.sheet) (omega (arith, c.requires.few))
 
-pub propagate-requires-clause-tokens : goal.propagate-requires-clause-tokens
-propagate-requires-clause-tokens g c =
+pub settle-requires-clause-tokens : goal.settle-requires-clause-tokens
+settle-requires-clause-tokens g c =
     count_applied c.args.ctx.now.task.now _ c.args.store.now.sheet c.args.decision.now _ (applied_is c.args.ctx.now.task.now _ _ _ c.args.decision.now c.apply.ensures.sheet c.mark-mark.ensures.sheet) c.requires.tokens
 
 pub returns-in-Ok-clause-led : goal.returns-in-Ok-clause-led

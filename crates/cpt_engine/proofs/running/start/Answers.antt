@@ -1,4 +1,4 @@
 use Rattle.cpt_engine.proofs.running.start.Goals as goal
 
-pub propagate-requires-clause-lent : goal.propagate-requires-clause-lent
-propagate-requires-clause-lent g c = record { task = c.in_ok-store.ensures.task; fits = c.requires.tables; formed = c.in_ok-store.ensures.formed }
+pub close-requires-clause-lent : goal.close-requires-clause-lent
+close-requires-clause-lent g c = record { task = c.in_ok-store.ensures.task; fits = c.requires.tables; formed = c.in_ok-store.ensures.formed }

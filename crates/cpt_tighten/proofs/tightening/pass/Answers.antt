@@ -1,4 +1,4 @@
-use Rattle.std.proofs.Common.{◌≡◌, ◌≤◌, ◌<◌, false, length, Option, ap, ◌∙◌, arith, slice_index_or, slice_set}
+use Rattle.std.proofs.Common.{◌≡◌, ◌<◌, false, length, Option, ap, ◌∙◌, arith, slice_index_or, slice_set}
 use Rattle.std.proofs.lemmas.List.{get_or_default}
 use Rattle.cpt_task.specs.Timeline.{action_of, occurrence_at}
 use Rattle.cpt_tighten.specs.declared.agenda.Event.{Event}
@@ -6,7 +6,6 @@ use Rattle.cpt_tighten.specs.declared.moments.Finish.{Finish}
 use Rattle.cpt_tighten.specs.Best.{finish_of}
 use Rattle.cpt_tighten.specs.Links.{waiting}
 use Rattle.cpt_tighten.specs.Records.{best_of, IsTaken}
-use Rattle.cpt_task.specs.declared.task.Action.{Action}
 use Rattle.cpt_tighten.proofs.Reading.{adders_within, pass_end, pass_start}
 use Rattle.cpt_tighten.proofs.tightening.pass.Goals as goal
 

@@ -1,5 +1,4 @@
-use Rattle.std.proofs.Common.{◌≡◌, ◌<◌, List, length, Some, sym, ap, ◌∙◌, subst}
-use Rattle.cpt_task.specs.declared.plan.Occ.{Occ}
+use Rattle.std.proofs.Common.{◌<◌, length, Some, sym, ap, ◌∙◌, subst}
 use Rattle.cpt_task.specs.Timeline.{makespan}
 use Rattle.cpt_tighten.specs.Best.{IsBest}
 use Rattle.cpt_tighten.specs.Chains.{IsChain}

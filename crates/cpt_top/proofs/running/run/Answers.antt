@@ -32,6 +32,14 @@ returns-in-Some g c =
       ground = k.ground;
       check = k.check;
       solve = k.solve;
+      prove = k.prove;
+      trim = k.trim;
+      tighten = k.tighten;
+      explain = k.explain;
+      explain_cert = k.explain_cert;
+      export = k.export;
+      validate_json = k.validate_json;
+      bench = k.bench;
     }
 
 pub returns-in-None : goal.returns-in-None
@@ -61,4 +69,12 @@ returns-in-None g c =
       ground = k.ground;
       check = k.check;
       solve = k.solve;
+      prove = k.prove;
+      trim = k.trim;
+      tighten = k.tighten;
+      explain = k.explain;
+      explain_cert = k.explain_cert;
+      export = k.export;
+      validate_json = k.validate_json;
+      bench = k.bench;
     }

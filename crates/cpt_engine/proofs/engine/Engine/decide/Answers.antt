@@ -1,10 +1,12 @@
-use Rattle.std.proofs.Common.{◌≡◌, ℕ, ◌<◌, List, [], ◌∷◌, ◌++◌, length, sym, ap, ◌∙◌, subst, arith}
+use Rattle.std.proofs.Common.{ℕ, ◌<◌, List, [], ◌∷◌, ◌++◌, length, sym, ap, ◌∙◌, subst, arith}
 use Rattle.cpt_sheet.specs.declared.data.Decision.{Decision}
 use Rattle.cpt_sheet.specs.declared.data.Sheet.{Sheet}
 use Rattle.cpt_sheet.specs.Formed.{IsFormed}
 use Rattle.cpt_calculus.specs.Decisions.{Fits}
 use Rattle.cpt_engine.specs.Engines.{EngineShape}
-use Rattle.cpt_engine.proofs.EngineLemmas.{stands_decided, decided_parts, grown_of, mark_from, led_applied}
+use Rattle.cpt_engine.specs.Running.{IsSettledAs}
+use Rattle.cpt_engine.specs.declared.state.State.TheVariants.{Alive}
+use Rattle.cpt_engine.proofs.EngineLemmas.{stands_closed, stands_decided, decided_parts, grown_of, mark_from, led_applied}
 use Rattle.cpt_engine.proofs.engine.Engine.decide.Goals as goal
 
 pub invariant_of-self-2 : goal.invariant_of-self-2
@@ -17,6 +19,7 @@ invariant_of-self-2 g c = record {
       (mark_from _ _ _ _ _ c.in_ok-reserve-3.ensures.sheet c.in_ok-reserve-3.ensures.marks c.in_ok-state.ensures.marks)
       (led_applied _ _ _ _ _ _ c.args.decision _ _ c.in_ok-reserve-3.ensures.sheet c.in_ok-state.ensures.led) c.in_ok-state.ensures.settled;
   task = c.in_ok-state.ensures.task;
+  users = c.self.invariant.users;
 }
 
 pub returns-clause-stands : goal.returns-clause-stands
@@ -46,3 +49,8 @@ forward-requires-clause-lent g c = record {
   fits = c.self.invariant.stands.fits;
   formed = subst (λ (z : Sheet). IsFormed c.self.inside.task.now z) (sym c.in_ok-reserve-3.ensures.sheet) c.self.invariant.stands.reached.formed;
 }
+
+pub forward-requires-clause-closed : goal.forward-requires-clause-closed
+forward-requires-clause-closed g c =
+    subst (λ (z : Sheet). IsSettledAs Alive g.R.Rule.covers c.self.inside.task.now c.self.inside.tables.now z) (sym c.in_ok-reserve-3.ensures.sheet)
+    (stands_closed _ _ c.self.invariant.stands (ap (λ (e : EngineShape). e.state) c.self.view_is ∙ c.requires.alive))

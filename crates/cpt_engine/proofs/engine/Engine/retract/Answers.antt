@@ -12,6 +12,7 @@ invariant_of-self-2 g c = record {
       stands_retracted _ _ _ _ _ _ c.self.inside.store c.undo_to.new.self _ _ c.self.invariant.stands c.in-Some.ensures.items
       (c.pop-2.ensures.rest ∙ ap (λ (k : ℕ). take (k - 1) c.self.inside.decisions.items) n) c.truncate.ensures.items refl c.undo_to.ensures.back;
   task = c.undo_to.ensures.back.task ∙ c.self.invariant.task;
+  users = c.self.invariant.users;
 }
 
 pub returns-clause-stands : goal.returns-clause-stands

@@ -1,0 +1,4 @@
+pub mod AskedLemmas
+pub mod MarkLemmas
+mod TableLemmas
+mod UserLemmas

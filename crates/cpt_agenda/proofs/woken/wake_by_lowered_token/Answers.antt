@@ -1,0 +1,16 @@
+use Rattle.std.proofs.Common.{length}
+use Rattle.cpt_task.specs.declared.span.Span.TheVariants.{Never}
+use Rattle.cpt_sheet.specs.declared.data.Cand.TheVariants.{Tok}
+use Rattle.cpt_sheet.specs.declared.data.Change.TheVariants.{Lower}
+use Rattle.cpt_agenda.specs.Asked.{IsAround, IsTokenBelow, WokenBy}
+use Rattle.cpt_agenda.proofs.AskedLemmas.{asked_then, can_after}
+use Rattle.cpt_agenda.proofs.TableLemmas.{lowered_token}
+use Rattle.cpt_agenda.proofs.woken.wake_by_lowered_token.Goals as goal
+
+pub ask_around-requires-clause-can : goal.ask_around-requires-clause-can
+ask_around-requires-clause-can g c = can_after c.args.ctx.now.task.now c.args.ctx.now.tables.now c.args.store.now _ _ c.requires.can c.ask_all_tokens.ensures.keeps
+
+pub returns : goal.returns
+returns g c =
+    asked_then g.R.Rule.covers c.args.ctx.now.task.now c.args.ctx.now.tables.now c.args.store.now.sheet c.args.cause (IsTokenBelow (length c.args.store.now.sheet.tokens)) (IsAround c.args.ctx.now.task.now c.args.store.now.sheet c.kind_at-kind.result) (WokenBy c.args.ctx.now.task.now c.args.store.now.sheet (Lower (Tok c.args.z) Never)) _ _ _
+    (lowered_token c.args.ctx.now.task.now c.args.store.now.sheet c.requires.can.lent.formed c.args.z c.kind_at-kind.result c.kind_at-kind.ensures) c.ask_all_tokens.ensures c.ask_around.ensures

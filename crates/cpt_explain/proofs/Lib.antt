@@ -1,0 +1,4 @@
+pub mod Losing
+pub mod Only
+pub mod Staging
+pub mod Validity

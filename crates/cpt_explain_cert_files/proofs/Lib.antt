@@ -1,0 +1,4 @@
+mod Counts
+mod Keeping
+mod Lines
+pub mod Once

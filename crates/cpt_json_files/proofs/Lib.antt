@@ -1,0 +1,5 @@
+pub mod Keeping
+pub mod Performing
+pub mod Stages
+pub mod Verdicts
+pub mod Zero

@@ -1,0 +1,3 @@
+pub mod Exporting
+pub mod Faults
+pub mod Validating

@@ -1,0 +1,5 @@
+pub mod Firsts
+pub mod Lists
+pub mod Named
+pub mod Parts
+pub mod Wholes

@@ -1,0 +1,4 @@
+pub mod Commands
+pub mod Explaining
+pub mod Texts
+pub mod Tightening

@@ -1,0 +1,6 @@
+//! The command `prove`.
+#![tactic(auto)]
+
+mod proving;
+
+pub use proving::prove;

@@ -1,0 +1,61 @@
+//! Tasks searched by the engine, over their best tables and with all rules.
+
+ghost use Rattle.std.specs.Prelude.{IfSome, ◌≤◌, length};
+ghost use Rattle.cpt_tables.specs.Greatest.{IsBest};
+ghost use Rattle.cpt_sheet.specs.Gaps.{FitsTask};
+
+use cpt_dist::dist_table;
+use cpt_engine::Engine;
+use cpt_h2::pair_table;
+use cpt_order::OrderRules;
+use cpt_outside::OutsideRules;
+use cpt_search::{Outcome, search};
+use cpt_store::Both;
+use cpt_support::SupportRules;
+use cpt_tables::Tables;
+use cpt_task::Task;
+use cpt_threat::ThreatRules;
+use std::alloc::Global;
+
+const RULES: Both<Both<OrderRules, SupportRules>, Both<ThreatRules, OutsideRules>> = Both {
+    first: Both {
+        first: OrderRules,
+        second: SupportRules,
+    },
+    second: Both {
+        first: ThreatRules,
+        second: OutsideRules,
+    },
+};
+
+/// The best tables of a task.
+pub fn best_tables(alloc: Global, task: &Task) -> Option<Tables>
+    ensures best { IfSome result (IsBest task.now) }
+    ensures fits { IfSome result (FitsTask task.now) }
+{
+    if task.atoms().len() > 2048 || task.actions().len() > 4096 {
+        return None;
+    }
+    let pairs = pair_table(alloc, task).ok()?;
+    let dists = dist_table(alloc, task, &pairs).ok()?;
+    Some(Tables { pairs, dists })
+}
+
+/// What the search finds, and how many calls it used.
+pub fn solve(
+    alloc: Global,
+    task: &Task,
+    tables: &Tables,
+    max: u64,
+    nodes: u64,
+) -> Option<(Outcome, u64)>
+    requires best { IsBest task.now tables.now }
+    requires fits { FitsTask task.now tables.now }
+{
+    if max > 1_000_000 || nodes < 1 || nodes > 4_000_000_000 {
+        return None;
+    }
+    let mut engine = Engine::open(alloc, task, tables, 0, RULES).ok()?;
+    let outcome = search(alloc, &mut engine, max, nodes).ok()?;
+    Some((outcome, engine.used()))
+}
