@@ -1,0 +1,3 @@
+(define (domain keys) (:predicates (k) (g1) (g2))
+(:durative-action u :parameters () :duration (= ?duration 1) :condition () :effect (at end (k)))
+(:d

@@ -1,0 +1,2 @@
+(define (domain keys) (:predicates (k) (g1) (g2))
+(:durative

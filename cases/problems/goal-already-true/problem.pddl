@@ -1,0 +1,1 @@
+(define (problem done) (:domain done) (:init (g)) (:goal (g)))

@@ -1,0 +1,1 @@
+(define (problem long) (:domain long) (:init) (:goal (g)))

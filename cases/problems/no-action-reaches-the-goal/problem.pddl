@@ -1,0 +1,1 @@
+(define (problem stuck) (:domain stuck) (:init) (:goal (g)))

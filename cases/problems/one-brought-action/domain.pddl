@@ -1,0 +1,5 @@
+(define (domain lock) (:predicates (k) (g))
+(:durative-action u :parameters () :duration (= ?duration 1) :condition ()
+ :effect (at end (k)))
+(:durative-action v :parameters () :duration (= ?duration 2) :condition (over all (k))
+ :effect (at end (g))))

@@ -1,0 +1,1 @@
+(define (problem keys) (:domain keys) (:init) (:goal (and (g1) (g2))))

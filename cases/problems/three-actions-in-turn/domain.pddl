@@ -1,0 +1,7 @@
+(define (domain turns) (:predicates (r) (g1) (g2) (g3))
+(:durative-action a1 :parameters () :duration (= ?duration 2) :condition (over all (r))
+ :effect (and (at end (not (r))) (at end (r)) (at end (g1))))
+(:durative-action a2 :parameters () :duration (= ?duration 2) :condition (over all (r))
+ :effect (and (at end (not (r))) (at end (r)) (at end (g2))))
+(:durative-action a3 :parameters () :duration (= ?duration 2) :condition (over all (r))
+ :effect (and (at end (not (r))) (at end (r)) (at end (g3)))))

@@ -1,0 +1,5 @@
+(define (domain shared) (:predicates (r) (p) (q))
+(:durative-action a :parameters () :duration (= ?duration 5) :condition (over all (r))
+ :effect (at end (p)))
+(:durative-action b :parameters () :duration (= ?duration 3) :condition (over all (r))
+ :effect (and (at end (not (r))) (at end (q)))))

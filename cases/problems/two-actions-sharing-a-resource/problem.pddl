@@ -1,0 +1,1 @@
+(define (problem shared) (:domain shared) (:init (r)) (:goal (and (p) (q))))

@@ -1,0 +1,7 @@
+(define (domain supports) (:predicates (q) (p) (g))
+(:durative-action c :parameters () :duration (= ?duration 10) :condition ()
+ :effect (at end (q)))
+(:durative-action a :parameters () :duration (= ?duration 4) :condition ()
+ :effect (at end (p)))
+(:durative-action b :parameters () :duration (= ?duration 1) :condition (and (over all (p)) (over all (q)))
+ :effect (at end (g))))

@@ -1,0 +1,1 @@
+(define (problem supports) (:domain supports) (:init) (:goal (g)))
