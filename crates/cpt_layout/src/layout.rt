@@ -6,6 +6,7 @@ ghost use Rattle.cpt_layout.specs.Numbers.{own_cells};
 
 use cpt_sheet::{Cand, Kind};
 use cpt_task::{List, Memory};
+use std::alloc::Global;
 use std::marker::Model;
 
 /// Where the cells of each token begin. The static lists say what each action and the end need, and who adds an atom.
@@ -36,6 +37,30 @@ impl Model for Layout {
 impl Layout {
     ghost use Rattle.cpt_layout.specs.Places.{out_lo, out_hi, tok_lo, tok_hi, order, member, needs_at, needs_by, adders_at, kind_at, IsThere, NoTwice, extended, cut};
     ghost use Rattle.cpt_layout.specs.Numbers.{cell_of, cells_in, base, needs_before, head};
+
+    /// The layout of no token, where these are what each action and the end need, and who adds each atom. It takes no
+    /// memory.
+    pub fn new(
+        alloc: Global,
+        bound: u64,
+        pre: List<List<u32>>,
+        goal: List<u32>,
+        adders: List<List<u32>>,
+    ) -> Layout
+        requires { (p : ℕ) → NoTwice (slice_index_or adders p []) }
+        ensures { result.frame ≡ record { bound = bound; pre = pre; goal = goal; adders = adders; kinds = [] } }
+    {
+        Layout {
+            bound,
+            pre,
+            goal,
+            adders,
+            kinds: Vec::new(alloc),
+            bases: Vec::new(alloc),
+            firsts: Vec::new(alloc),
+            heads: Vec::new(alloc),
+        }
+    }
 
     /// The greatest makespan.
     pub fn bound(&self) -> u64
