@@ -1,0 +1,6 @@
+pub mod Deciding
+pub mod Faults
+pub mod Leasts
+pub mod Plans
+pub mod Sheets
+pub mod Steps

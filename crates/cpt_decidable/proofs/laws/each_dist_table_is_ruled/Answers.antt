@@ -1,0 +1,5 @@
+use Rattle.cpt_decidable.proofs.Faults as lemmas
+use Rattle.cpt_decidable.proofs.laws.each_dist_table_is_ruled.Goals as goal
+
+pub returns : goal.returns
+returns c = lemmas.dists_ruled
