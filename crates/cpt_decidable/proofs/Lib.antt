@@ -4,3 +4,4 @@ pub mod Leasts
 pub mod Plans
 pub mod Sheets
 pub mod Steps
+pub mod Verdicts

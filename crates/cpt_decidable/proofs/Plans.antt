@@ -20,7 +20,7 @@ is_interfering a b = either (is_disturbed a b) (is_disturbed b a)
 is_overlap : (t : TaskShape) (o q : Occ) → IsDecidable (Overlaps t o q)
 is_overlap t o q = like (λ h. record { first = h.0; second = h.1 }) (λ h. (h.first, h.second)) (both (is_less o.start (end_of t q)) (is_less q.start (end_of t o)))
 
-is_clash : (t : TaskShape) (plan : List Occ) (i j : ℕ) → IsDecidable (Clashes t plan i j)
+pub is_clash : (t : TaskShape) (plan : List Occ) (i j : ℕ) → IsDecidable (Clashes t plan i j)
 is_clash t plan i j = both (is_overlap t (occurrence_at plan i) (occurrence_at plan j)) (is_interfering (action_of t (occurrence_at plan i)) (action_of t (occurrence_at plan j)))
 
 is_apart : (t : TaskShape) (plan : List Occ) → IsDecidable (IsApart t plan)
@@ -29,12 +29,12 @@ is_apart t plan =
     (are_all_below (λ i. (j : ℕ) → j < length plan → i < j → Clashes t plan i j → ⊥)
     (λ i. are_all_below (λ j. i < j → Clashes t plan i j → ⊥) (λ j. implied (is_less i j) (denied (is_clash t plan i j))) (length plan)) (length plan))
 
-is_held_from : (t : TaskShape) (plan : List Occ) (from to p : ℕ) → IsDecidable (HoldsFrom t plan from to p)
+pub is_held_from : (t : TaskShape) (plan : List Occ) (from to p : ℕ) → IsDecidable (HoldsFrom t plan from to p)
 is_held_from t plan from to p =
     like (λ h time low high. h time high low) (λ h time high low. h time low high)
     (are_all_below (λ time. from ≤ time → holds_at t plan time p ≡ true) (λ time. implied (is_at_most from time) (is_test (holds_at t plan time p) true)) to)
 
-is_met : (t : TaskShape) (plan : List Occ) (o : Occ) → IsDecidable (IsMet t plan o)
+pub is_met : (t : TaskShape) (plan : List Occ) (o : Occ) → IsDecidable (IsMet t plan o)
 is_met t plan o = are_all (HoldsFrom t plan o.start (end_of t o)) (λ p. is_held_from t plan o.start (end_of t o) p) (action_of t o).pre
 
 pub is_valid : (t : TaskShape) (plan : List Occ) → IsDecidable (IsValid t plan)

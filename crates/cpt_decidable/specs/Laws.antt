@@ -1,7 +1,9 @@
 use Rattle.std.specs.Prelude.{◌⊎◌, List}
 use Rattle.cpt_task.specs.declared.plan.Occ.{Occ}
+use Rattle.cpt_task.specs.declared.plan.Verdict.{Verdict}
 use Rattle.cpt_task.specs.Shape.{TaskShape}
-use Rattle.cpt_task.specs.Timeline.{IsValid}
+use Rattle.cpt_task.specs.Timeline.{IsPlan, IsValid}
+use Rattle.cpt_task.specs.Judging.{Judges}
 use Rattle.cpt_tables.specs.declared.faults.PairFault.{PairFault}
 use Rattle.cpt_tables.specs.declared.faults.DistFault.{DistFault}
 use Rattle.cpt_tables.specs.declared.tables.Tables.{Tables}
@@ -18,6 +20,10 @@ use Rattle.cpt_decidable.specs.Decidable.{IsDecidable}
 -- each plan is valid or not
 abbrev pub EachPlanIsValidOrNot : Type 0
 EachPlanIsValidOrNot = (t : TaskShape) (plan : List Occ) → IsDecidable (IsValid t plan)
+
+-- each plan of the task has a verdict: it is valid, or there is a first cause against it
+abbrev pub EachPlanHasAVerdict : Type 0
+EachPlanHasAVerdict = (t : TaskShape) (plan : List Occ) → IsPlan t plan → (v : Verdict) × Judges t plan v
 
 -- each pair table is admissible, or it has a least fault
 abbrev pub EachPairTableIsRuled : Type 0

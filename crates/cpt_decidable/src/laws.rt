@@ -1,10 +1,15 @@
 //! The laws: their contracts are what they say, and their bodies are empty.
 
-ghost use Rattle.cpt_decidable.specs.Laws.{EachDistTableIsRuled, EachFlawStandsOrNot, EachPairTableIsRuled, EachPlanIsValidOrNot, EachSheetIsDeadOrLive, EachStepIsLegalOrNot};
+ghost use Rattle.cpt_decidable.specs.Laws.{EachDistTableIsRuled, EachFlawStandsOrNot, EachPairTableIsRuled, EachPlanHasAVerdict, EachPlanIsValidOrNot, EachSheetIsDeadOrLive, EachStepIsLegalOrNot};
 
 /// Each plan is valid or not.
 pub fn each_plan_is_valid_or_not()
     ensures { EachPlanIsValidOrNot }
+{}
+
+/// Each plan of a task has a verdict: it is valid, or there is a first cause against it.
+pub fn each_plan_has_a_verdict()
+    ensures { EachPlanHasAVerdict }
 {}
 
 /// Each pair table is admissible, or it has a least fault.
