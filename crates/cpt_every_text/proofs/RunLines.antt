@@ -36,7 +36,7 @@ read_runs : (b : List ℕ) (r : CertLine) → IsReadAs b r → HasRuns r
 read_runs b r (inl (l, spells, e)) = subst HasRuns (sym e) (written_runs l spells.written)
 read_runs b r (inr (e, none)) = subst HasRuns (sym e) tt
 
-zip_runs : (bodies : List (List ℕ)) (read : List CertLine) (tail : List ℕ) → AllZip IsReadAs bodies read → AllHaveRuns (read ++ unended tail)
+pub zip_runs : (bodies : List (List ℕ)) (read : List CertLine) (tail : List ℕ) → AllZip IsReadAs bodies read → AllHaveRuns (read ++ unended tail)
 zip_runs [] [] [] h = tt
 zip_runs [] [] (byte ∷ tail) h = (tt, tt)
 zip_runs [] (r ∷ read) tail h = absurd h
