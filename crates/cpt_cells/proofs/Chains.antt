@@ -1,9 +1,10 @@
 -- marks of sheets
-use Rattle.std.proofs.Common.{◌≡◌, ℕ, ◌+◌, ◌≤◌, List, [], ◌∷◌, ◌++◌, Bool, true, false, if◌then◌else◌, length, take, refl, sym, ◌∙◌, ap, arith}
+use Rattle.std.proofs.Common.{◌≡◌, ℕ, ◌+◌, ◌≤◌, List, [], ◌∷◌, ◌++◌, Bool, true, false, if◌then◌else◌, length, take, refl, sym, ◌∙◌, ap, subst, arith}
 use Rattle.std.specs.Prelude.{map}
-use Rattle.std.proofs.lemmas.List.{take-take}
+use Rattle.std.proofs.lemmas.List.{same_from_push, take-take}
 use Rattle.std.proofs.Math.Seq.{take-length}
 use Rattle.cpt_sheet.specs.declared.data.Kind.{Kind}
+use Rattle.cpt_sheet.specs.declared.data.Sheet.{Sheet}
 use Rattle.cpt_trail.specs.Trails.{Mark, with_kept, entries_of}
 use Rattle.cpt_layout.specs.Places.{Frame, cut}
 use Rattle.cpt_layout.specs.Numbers.{cells_in}
@@ -80,3 +81,12 @@ cut_all s n e = ap (λ (ks : List Kind). record s { kinds = ks }) e
 
 pub cut_now : (s : Frame) (cells : List ℕ) → count_at s cells ≡ length s.kinds → cut s (count_at s cells) ≡ s
 cut_now s cells e = cut_all s (count_at s cells) (ap (λ (n : ℕ). take n s.kinds) e ∙ take-length s.kinds)
+
+-- marks that are kept twice
+pub keeps_then : (ls ms ns : List SheetMark) → KeepsMarks ls ms → KeepsMarks ms ns → KeepsMarks ls ns
+keeps_then ls ms ns (same e) k = subst (λ (us : List SheetMark). KeepsMarks us ns) e k
+keeps_then ls ms ns (newest xs s m n e f) (same g) = newest xs s m n e (g ∙ f)
+keeps_then ls ms ns (newest xs s m n e f) (newest ys u k l g h) =
+    let p = same_from_push xs ys (record { sheet = s; written = n }) (record { sheet = u; written = k }) (sym f ∙ g) in
+    let a : s ≡ u = ap (λ (z : SheetMark). z.sheet) p.1 in
+    newest xs s m l e (h ∙ ap (λ (z : List SheetMark). z ++ record { sheet = u; written = l } ∷ []) (sym p.0) ∙ ap (λ (z : Sheet). xs ++ record { sheet = z; written = l } ∷ []) (sym a))

@@ -1,6 +1,7 @@
 -- the cell of the number of tokens
-use Rattle.std.proofs.Common.{◌≡◌, ◌≢◌, ℕ, suc, zero, ◌+◌, ◌*◌, ◌≤◌, ◌<◌, ◌-◌, Bool, true, false, if◌then◌else◌, length, ap, arith}
+use Rattle.std.proofs.Common.{◌≡◌, ◌≢◌, ℕ, suc, zero, ◌+◌, ◌*◌, ◌≤◌, ◌<◌, ◌-◌, ◌^◌, Bool, true, false, if◌then◌else◌, length, ap, arith}
 use Rattle.std.specs.Prelude.{nat_lt}
+use Rattle.std.proofs.Math.Nat.{mul-le-mul_left}
 use Rattle.cpt_sheet.specs.declared.data.Cand.TheVariants.{Tok, Out}
 use Rattle.cpt_layout.specs.Places.{Place, out_lo, out_hi, tok_lo, tok_hi, order, member, Frame, IsThere}
 use Rattle.cpt_layout.specs.Numbers.{base, head, cell_of, size_of, needs_before}
@@ -37,3 +38,14 @@ count_apart s (member x j (Tok y)) h e =
     let b = count_below s y in
     either_above (nat_lt y x) (2 * length s.pre) (head s x j + (2 + y)) (base s y + (2 + 2 * y + (needs_before s x + j))) (omega arith) (omega arith) e
 count_apart s (member x j (Out a)) h e = (let b = count_below s x in absurd (omega arith))
+
+-- the tokens are few, since each has two cells for each older one
+squares : (s : Frame) (n : ℕ) → n * n + n + 1 ≤ base s n
+squares s zero = omega arith
+squares s (suc n) = (let h = squares s n in omega arith)
+
+pub few_tokens : (s : Frame) (n : ℕ) → base s n < 2 ^ 64 → n < 2 ^ 32
+few_tokens s n l =
+    let q = squares s n in
+    let g : (2 ^ 32 ≤ n) → ⊥ = λ h. (let a = mul-le-mul_left n h in let b = mul-le-mul_left (2 ^ 32) h in omega arith) in
+    omega arith

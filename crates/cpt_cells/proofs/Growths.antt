@@ -1,5 +1,5 @@
 -- a token more
-use Rattle.std.proofs.Common.{◌≡◌, ◌≢◌, ℕ, zero, suc, ◌+◌, ◌*◌, ◌≤◌, ◌<◌, ◌^◌, List, [], ◌∷◌, ◌++◌, Bool, if◌then◌else◌, length, get_or, set, take, refl, sym, ◌∙◌, ap, subst, arith}
+use Rattle.std.proofs.Common.{◌≡◌, ℕ, zero, suc, ◌+◌, ◌*◌, ◌≤◌, ◌<◌, ◌^◌, List, [], ◌∷◌, ◌++◌, Bool, if◌then◌else◌, length, get_or, set, refl, sym, ◌∙◌, ap, subst, arith}
 use Rattle.std.specs.Prelude.{map}
 use Rattle.std.proofs.lemmas.List.{length-append, length-set, take-append-le, get_or-set_same, get_or-set_other}
 use Rattle.std.proofs.Math.ListN.{get_or-append}
@@ -11,9 +11,8 @@ use Rattle.cpt_sheet.specs.declared.data.Token.{Token}
 use Rattle.cpt_trail.specs.Trails.{Mark, TrailShape, keeps, with_kept}
 use Rattle.cpt_layout.specs.Places.{Frame, Place, IsThere, cut, extended, member, order, out_hi, out_lo, tok_hi, tok_lo}
 use Rattle.cpt_layout.specs.Numbers.{base, cell_of, cells_in}
-use Rattle.cpt_layout.specs.Sheets.{number_at, orders_from, out_from, seen, sheet_from}
+use Rattle.cpt_layout.specs.Sheets.{number_at, seen, sheet_from}
 use Rattle.cpt_layout.proofs.Changes.{tokens_same}
-use Rattle.cpt_layout.proofs.Numbering.{cell_below}
 use Rattle.cpt_layout.proofs.Views.{orders_same, outs_same, sheet_of_parts, token_same}
 use Rattle.cpt_block.specs.Blocks.{IsFrameOf, block, grown}
 use Rattle.cpt_block.proofs.Sheets.{grows}

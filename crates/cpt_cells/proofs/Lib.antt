@@ -2,6 +2,8 @@ pub mod Backing
 pub mod Chains
 pub mod Counts
 pub mod Growths
+pub mod Leaving
 pub mod Listed
+pub mod Ordered
 pub mod Rooms
 pub mod Rowing

@@ -1,18 +1,25 @@
--- whether an outside action is in a list
-use Rattle.std.proofs.Common.{◌≡◌, ◌≢◌, ℕ, suc, zero, ◌+◌, ◌<◌, ◌==◌, List, [], ◌∷◌, Bool, true, false, if◌then◌else◌, length, refl, sym, ◌∙◌, ap, subst, arith, inl, inr}
-use Rattle.std.specs.Prelude.{map}
-use Rattle.std.proofs.lemmas.Bool.{eqb-true, false≢true, or_cases}
+-- whether a token or an outside action is in a list
+use Rattle.std.proofs.Common.{◌≡◌, ◌≢◌, ℕ, suc, ◌≤◌, ◌<◌, ◌==◌, List, [], ◌∷◌, Bool, true, false, length, refl, sym, ◌∙◌, ap, subst, arith, inl, inr}
+use Rattle.std.specs.Prelude.{map, not, ◌&&◌}
+use Rattle.std.proofs.lemmas.Bool.{eq-eqb, eqb-true, false≢true, or_cases}
 use Rattle.cpt_sheet.specs.declared.data.Cand.{Cand}
 use Rattle.cpt_sheet.specs.declared.data.Cand.TheVariants.{Tok, Out}
 use Rattle.cpt_sheet.specs.View.{has, same}
 use Rattle.cpt_layout.specs.Places.{Frame, Place, In, IsThere, adders_at, all_cands, atom_at, kept, member, needs_at, place_in, table}
-use Rattle.cpt_layout.specs.Sheets.{is_cand, need_from, sheet_from}
+use Rattle.cpt_layout.specs.Sheets.{is_cand, need_from, number_at, seen, sheet_from}
 use Rattle.cpt_layout.proofs.Cands.{in_outs, outs_in, same_true}
-use Rattle.cpt_layout.proofs.Lists.{append_in, either, if_false, in_append, in_table, when}
+use Rattle.cpt_layout.proofs.Drops.{not_eq}
+use Rattle.cpt_layout.proofs.Lists.{append_in, either, if_false, in_append, in_table, table_in, when}
 use Rattle.cpt_layout.proofs.Reading.{listed_is}
+use Rattle.cpt_layout.proofs.Views.{tokens_are}
 use Rattle.cpt_block.specs.Blocks.{list_in}
 use Rattle.cpt_block.proofs.Lookups.{list_is}
 use Rattle.cpt_block.proofs.Rows.{place_below}
+use Rattle.cpt_cells.specs.Shapes.{CellsShape}
+
+-- a token that the sheet shows
+pub token_in : (s : Frame) (cells : List ℕ) (t : CellsShape) (x : ℕ) → seen s cells ≡ t.sheet → x < length t.sheet.tokens → x < length s.kinds
+token_in s cells t x e h = (let n = tokens_are s (number_at s cells) in let m : length t.sheet.tokens ≡ length (seen s cells).tokens = ap (λ z. length z.tokens) (sym e) in omega arith)
 
 place_there : (a : ℕ) (bs : List ℕ) → place_in a bs < length bs → In a bs
 place_there a [] h = absurd (omega arith)
@@ -22,7 +29,7 @@ place_there a (b ∷ bs) h =
       | inr e ↦ (let q : place_in a (b ∷ bs) ≡ suc (place_in a bs) = if_false (b == a) 0 (suc (place_in a bs)) e in inr (place_there a bs (omega arith)))
     ]
 
-kept_in : (f : Cand → Bool) (c : Cand) (ds : List Cand) → has c (kept f ds) ≡ true → In c ds
+pub kept_in : (f : Cand → Bool) (c : Cand) (ds : List Cand) → has c (kept f ds) ≡ true → In c ds
 kept_in f c [] h = absurd (false≢true h)
 kept_in f c (d ∷ ds) h =
     elim (either (f d)) [
@@ -37,7 +44,7 @@ kept_in f c (d ∷ ds) h =
 in_out_at : (bs : List ℕ) (a : ℕ) → (b : ℕ) × (In b bs) × (Out a ≡ Out b) → In a bs
 in_out_at bs a t = (let q = t.2 in let e : t.0 ≡ a = cc in subst (λ (i : ℕ). In i bs) e t.1)
 
-out_there : (s : Frame) (p a : ℕ) → In (Out a) (all_cands s p) → In a (adders_at s p)
+pub out_there : (s : Frame) (p a : ℕ) → In (Out a) (all_cands s p) → In a (adders_at s p)
 out_there s p a h =
     elim (in_append (Out a) (table Tok 0 (length s.kinds)) (map Out (adders_at s p)) h) [
       | inl r ↦ (let t = in_table Tok 0 (length s.kinds) (Out a) r in let q = t.3 in let e : Tok t.0 ≡ Out a = q in cc)
@@ -59,4 +66,36 @@ out_unlisted s v x j a l h b =
     elim (either (has (Out a) (need_from s v x j).cands)) [
       | inl e ↦ absurd (b (place_below a (adders_at s (atom_at s x j)) (out_there s (atom_at s x j) a (kept_in (is_cand v x j) (Out a) (all_cands s (atom_at s x j)) e))))
       | inr e ↦ sym (ap (λ (cs : List Cand). has (Out a) cs) (list_is s v x j l h) ∙ e)
+    ]
+
+pub tok_is_there : (s : Frame) (x j y : ℕ) → x < length s.kinds → j < length (needs_at s x) → y < length s.kinds → y ≢ x → IsThere s (member x j (Tok y))
+tok_is_there s x j y l h b d = (l, h, append_in (Tok y) (table Tok 0 (length s.kinds)) (map Out (adders_at s (atom_at s x j))) (inl (table_in Tok 0 (length s.kinds) y (omega arith) (omega arith))), λ e. d (cc))
+
+pub tok_listed : (s : Frame) (v : Place → ℕ) (x j y : ℕ) → x < length s.kinds → j < length (needs_at s x) → y < length s.kinds → y ≢ x →
+    (v (member x j (Tok y)) == 1) ≡ has (Tok y) (list_in (sheet_from s v) x j)
+tok_listed s v x j y l h b d =
+    sym (ap (λ (f : Bool). not f && (v (member x j (Tok y)) == 1)) (not_eq y x d))
+    ∙ ((let t = tok_is_there s x j y l h b d in sym (listed_is s v x j (Tok y) t.2))
+    ∙ ap (λ (cs : List Cand). has (Tok y) cs) (sym (list_is s v x j l h)))
+
+pub tok_itself : (s : Frame) (v : Place → ℕ) (x j : ℕ) → x < length s.kinds → j < length (needs_at s x) → false ≡ has (Tok x) (list_in (sheet_from s v) x j)
+tok_itself s v x j l h =
+    sym (
+    ap (λ (cs : List Cand). has (Tok x) cs) (list_is s v x j l h)
+    ∙ (listed_is s v x j (Tok x) (append_in (Tok x) (table Tok 0 (length s.kinds)) (map Out (adders_at s (atom_at s x j))) (inl (table_in Tok 0 (length s.kinds) x (omega arith) (omega arith))))
+    ∙ ap (λ (b : Bool). not b && (v (member x j (Tok x)) == 1)) (eq-eqb x x refl))
+    )
+
+pub tok_there : (s : Frame) (p y : ℕ) → In (Tok y) (all_cands s p) → y < length s.kinds
+tok_there s p y h =
+    elim (in_append (Tok y) (table Tok 0 (length s.kinds)) (map Out (adders_at s p)) h) [
+      | inl r ↦ (let t = in_table Tok 0 (length s.kinds) (Tok y) r in let q = t.3 in let e : t.0 ≡ y = cc in let b = t.2 in omega arith)
+      | inr r ↦ (let t = in_outs (adders_at s p) (Tok y) r in let q = t.2 in let e : Tok y ≡ Out t.0 = q in cc)
+    ]
+
+pub tok_unlisted : (s : Frame) (v : Place → ℕ) (x j y : ℕ) → x < length s.kinds → j < length (needs_at s x) → length s.kinds ≤ y → false ≡ has (Tok y) (list_in (sheet_from s v) x j)
+tok_unlisted s v x j y l h b =
+    elim (either (has (Tok y) (need_from s v x j).cands)) [
+      | inl e ↦ (let k : y < length s.kinds = tok_there s (atom_at s x j) y (kept_in (is_cand v x j) (Tok y) (all_cands s (atom_at s x j)) e) in absurd (omega arith))
+      | inr e ↦ sym (ap (λ (cs : List Cand). has (Tok y) cs) (list_is s v x j l h) ∙ e)
     ]

@@ -38,7 +38,7 @@ impl Model for Cells {
 
 impl Cells {
     ghost use Rattle.cpt_task.specs.Shape.{TaskShape};
-    ghost use Rattle.cpt_layout.specs.Places.{Place, IsThere, adders_at, extended, needs_at, needs_by, order};
+    ghost use Rattle.cpt_layout.specs.Places.{Place, IsThere, NoTwice, adders_at, all_cands, atom_at, extended, kept, needs_at, needs_by, order};
     ghost use Rattle.cpt_layout.specs.Numbers.{cell_of, cells_in};
     ghost use Rattle.cpt_block.specs.Blocks.{IsFrameOf, block, grown, list_in};
     ghost use Rattle.cpt_layout.specs.Puts.{Puts, lo_of, hi_of, IsSpanOf, IsCandCell, CanMake};
@@ -92,6 +92,7 @@ impl Cells {
     pub fn tokens(&self) -> usize
         ensures value { result ≡ length self.now.sheet.tokens }
         ensures kinds { result ≡ length self.now.frame.kinds }
+        ensures few { result < 2 ^ 32 }
     {
         self.layout.tokens()
     }
@@ -110,6 +111,53 @@ impl Cells {
         ensures { result.now ≡ adders_at self.now.frame p }
     {
         self.layout.adders(p)
+    }
+
+    /// The place of an atom among what a token needs, or how many these are where it is none of them.
+    pub fn place(&self, x: u32, p: u32) -> usize
+        requires { x < length self.now.sheet.tokens }
+        ensures within { result ≤ length (needs_at self.now.frame x) }
+        ensures atom { result < length (needs_at self.now.frame x) → atom_at self.now.frame x result ≡ p }
+        ensures list { result < length (needs_at self.now.frame x) → cands self.now.sheet x p ≡ list_in self.now.sheet x result }
+        ensures none { length (needs_at self.now.frame x) ≤ result → cands self.now.sheet x p ≡ [] }
+    {
+        place_of(self.layout.needs(x), p)
+    }
+
+    /// A list has its tokens first, then its outside actions, both ascending, and none twice.
+    pub fn keeps_order(&self, x: u32, p: u32)
+        requires { x < length self.now.sheet.tokens }
+        ensures order { cands self.now.sheet x p ≡ kept (λ c. has c (cands self.now.sheet x p)) (all_cands self.now.frame p) }
+        ensures once { NoTwice (all_cands self.now.frame p) }
+    {
+        let _ = &self.trail;
+    }
+
+    /// Whether a token is in the list of a token at a place among its preconditions.
+    pub fn lists_token(&self, x: u32, j: usize, y: u32) -> bool
+        requires token { x < length self.now.sheet.tokens }
+        requires need { j < length (needs_at self.now.frame x) }
+        ensures { result ≡ has (Cand.Tok y) (list_in self.now.sheet x j) }
+    {
+        if (y as usize) < self.layout.tokens() {
+            self.lists_known(x, j, y)
+        } else {
+            false
+        }
+    }
+
+    /// The same of a token that is there.
+    fn lists_known(&self, x: u32, j: usize, y: u32) -> bool
+        requires token { x < length self.now.sheet.tokens }
+        requires need { j < length (needs_at self.now.frame x) }
+        requires known { y < length self.now.frame.kinds }
+        ensures { result ≡ has (Cand.Tok y) (list_in self.now.sheet x j) }
+    {
+        if y == x {
+            false
+        } else {
+            self.trail.get(self.layout.token_cand_cell(x, j, y)) == 1
+        }
     }
 
     /// Whether an outside action is in the list of a token at a place among its preconditions.
@@ -274,7 +322,7 @@ impl Cells {
     }
 
     /// Takes a candidate from a list.
-    fn take<L: Ledger>(&mut self, x: u32, p: u32, c: Cand, steps: &mut Steps<L>)
+    pub(crate) fn take<L: Ledger>(&mut self, x: u32, p: u32, c: Cand, steps: &mut Steps<L>)
         requires token { x < length self.old.sheet.tokens }
         requires listed { has c (cands self.old.sheet x p) ≡ true }
         ensures frame { self.new.frame ≡ self.old.frame }
@@ -289,6 +337,7 @@ impl Cells {
     /// Makes a change.
     pub fn make<L: Ledger>(&mut self, change: Change, steps: &mut Steps<L>)
         requires { CanMake self.old.sheet change }
+        ensures frame { self.new.frame ≡ self.old.frame }
         ensures sheet { self.new.sheet ≡ changed self.old.sheet change }
         ensures marks { KeepsMarks self.old.marks self.new.marks }
         ensures ticks { steps.new ≤ steps.old + 1 }
@@ -307,6 +356,7 @@ impl Cells {
     /// The decision that the first token comes before the second.
     pub fn decide_before<L: Ledger>(&mut self, x: u32, y: u32, steps: &mut Steps<L>)
         requires { IsPlaced self.old.sheet x y }
+        ensures frame { self.new.frame ≡ self.old.frame }
         ensures sheet { self.new.sheet ≡ with_posted self.old.sheet x y }
         ensures marks { KeepsMarks self.old.marks self.new.marks }
         ensures ticks { steps.new ≤ steps.old + 1 }

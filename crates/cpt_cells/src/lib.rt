@@ -3,6 +3,7 @@
 
 mod appending;
 mod cells;
+mod lists;
 mod rows;
 mod spans;
 

@@ -1,7 +1,5 @@
 use Rattle.std.proofs.Common.{rules, arith, ◌≡◌, ◌<◌, ◌+◌, ◌*◌, ◌^◌, ◌++◌, ◌∷◌, [], ◌∙◌, ℕ, List, if◌then◌else◌, length, set, ap, sym, subst}
 use Rattle.std.specs.Prelude.{map}
-use Rattle.cpt_sheet.specs.declared.data.Sheet.{Sheet}
-use Rattle.cpt_task.specs.Shape.{TaskShape}
 use Rattle.cpt_trail.specs.Trails.{Mark, keeps, with_kept}
 use Rattle.cpt_layout.specs.Places.{Frame, extended}
 use Rattle.cpt_layout.specs.Numbers.{cells_in}
