@@ -188,48 +188,18 @@ fn command_by(verb: Verb, words: &[String]) -> Option<Command<'_>>
     ensures { option_map asked_of result ≡ asked_by verb (map string_bytes words.now) }
 {
     match verb {
-        Verb::ValidateTask => {
-            let (task, plan) = two_names(words)?;
-            Some(Command::ValidateTask(task, plan))
-        }
-        Verb::Validate => {
-            let (domain, problem, plan) = three_names(words)?;
-            Some(Command::Validate(domain, problem, plan))
-        }
-        Verb::Ground => {
-            let (domain, problem) = two_names(words)?;
-            Some(Command::Ground(domain, problem))
-        }
-        Verb::Check => {
-            let (domain, problem, cert) = three_names(words)?;
-            Some(Command::Check(domain, problem, cert))
-        }
+        Verb::ValidateTask => two_names(words).map(|n| Command::ValidateTask(n.0, n.1)),
+        Verb::Validate => three_names(words).map(|n| Command::Validate(n.0, n.1, n.2)),
+        Verb::Ground => two_names(words).map(|n| Command::Ground(n.0, n.1)),
+        Verb::Check => three_names(words).map(|n| Command::Check(n.0, n.1, n.2)),
         Verb::Solve => solve_by(words),
         Verb::Prove => prove_by(words),
-        Verb::Trim => {
-            let (domain, problem, cert) = three_names(words)?;
-            Some(Command::Trim(domain, problem, cert))
-        }
-        Verb::Tighten => {
-            let (domain, problem, plan) = three_names(words)?;
-            Some(Command::Tighten(domain, problem, plan))
-        }
-        Verb::Explain => {
-            let (domain, problem, plan) = three_names(words)?;
-            Some(Command::Explain(domain, problem, plan))
-        }
-        Verb::ExplainCert => {
-            let (domain, problem, cert) = three_names(words)?;
-            Some(Command::ExplainCert(domain, problem, cert))
-        }
-        Verb::Export => {
-            let (domain, problem) = two_names(words)?;
-            Some(Command::Export(domain, problem))
-        }
-        Verb::ValidateJson => {
-            let (task, plan) = two_names(words)?;
-            Some(Command::ValidateJson(task, plan))
-        }
+        Verb::Trim => three_names(words).map(|n| Command::Trim(n.0, n.1, n.2)),
+        Verb::Tighten => three_names(words).map(|n| Command::Tighten(n.0, n.1, n.2)),
+        Verb::Explain => three_names(words).map(|n| Command::Explain(n.0, n.1, n.2)),
+        Verb::ExplainCert => three_names(words).map(|n| Command::ExplainCert(n.0, n.1, n.2)),
+        Verb::Export => two_names(words).map(|n| Command::Export(n.0, n.1)),
+        Verb::ValidateJson => two_names(words).map(|n| Command::ValidateJson(n.0, n.1)),
         Verb::Bench => bench_by(words),
     }
 }
