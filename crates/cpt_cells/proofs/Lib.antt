@@ -4,6 +4,8 @@ pub mod Counts
 pub mod Growths
 pub mod Leaving
 pub mod Listed
+pub mod Making
+pub mod Nths
 pub mod Ordered
 pub mod Rooms
 pub mod Rowing

@@ -1,15 +1,15 @@
 -- whether a token or an outside action is in a list
-use Rattle.std.proofs.Common.{◌≡◌, ◌≢◌, ℕ, suc, ◌≤◌, ◌<◌, ◌==◌, List, [], ◌∷◌, Bool, true, false, length, refl, sym, ◌∙◌, ap, subst, arith, inl, inr}
+use Rattle.std.proofs.Common.{◌≡◌, ◌≢◌, ℕ, suc, zero, ◌≤◌, ◌<◌, ◌==◌, List, [], ◌∷◌, Bool, true, false, length, get_or, refl, sym, ◌∙◌, ap, subst, arith, inl, inr}
 use Rattle.std.specs.Prelude.{map, not, ◌&&◌}
 use Rattle.std.proofs.lemmas.Bool.{eq-eqb, eqb-true, false≢true, or_cases}
 use Rattle.cpt_sheet.specs.declared.data.Cand.{Cand}
 use Rattle.cpt_sheet.specs.declared.data.Cand.TheVariants.{Tok, Out}
 use Rattle.cpt_sheet.specs.View.{has, same}
-use Rattle.cpt_layout.specs.Places.{Frame, Place, In, IsThere, adders_at, all_cands, atom_at, kept, member, needs_at, place_in, table}
+use Rattle.cpt_layout.specs.Places.{Frame, Place, In, IsThere, NoTwice, adders_at, all_cands, atom_at, kept, member, needs_at, place_in, table}
 use Rattle.cpt_layout.specs.Sheets.{is_cand, need_from, number_at, seen, sheet_from}
 use Rattle.cpt_layout.proofs.Cands.{in_outs, outs_in, same_true}
 use Rattle.cpt_layout.proofs.Drops.{not_eq}
-use Rattle.cpt_layout.proofs.Lists.{append_in, either, if_false, in_append, in_table, table_in, when}
+use Rattle.cpt_layout.proofs.Lists.{append_in, either, if_false, if_true, in_append, in_table, table_in, when}
 use Rattle.cpt_layout.proofs.Reading.{listed_is}
 use Rattle.cpt_layout.proofs.Views.{tokens_are}
 use Rattle.cpt_block.specs.Blocks.{list_in}
@@ -99,3 +99,23 @@ tok_unlisted s v x j y l h b =
       | inl e ↦ (let k : y < length s.kinds = tok_there s (atom_at s x j) y (kept_in (is_cand v x j) (Tok y) (all_cands s (atom_at s x j)) e) in absurd (omega arith))
       | inr e ↦ sym (ap (λ (cs : List Cand). has (Tok y) cs) (list_is s v x j l h) ∙ e)
     ]
+
+-- the actions that add the atom of a need
+pub adders_in : (s : Frame) (x j : ℕ) (ns bs : List ℕ) → ns ≡ needs_at s x → bs ≡ adders_at s (get_or ns j 0) → bs ≡ adders_at s (atom_at s x j)
+adders_in s x j ns bs e h = h ∙ ap (λ (ms : List ℕ). adders_at s (get_or ms j 0)) e
+
+in_nth : (bs : List ℕ) (k : ℕ) → k < length bs → In (get_or bs k 0) bs
+in_nth [] k l = absurd (omega arith)
+in_nth (b ∷ bs) zero l = inl refl
+in_nth (b ∷ bs) (suc k) l = inr (in_nth bs k (omega arith))
+
+-- where nobody stands twice, the place of the one at k is k
+pub place_nth : (bs : List ℕ) (k : ℕ) → NoTwice bs → k < length bs → place_in (get_or bs k 0) bs ≡ k
+place_nth [] k n l = absurd (omega arith)
+place_nth (b ∷ bs) zero n l = if_true (b == b) 0 (suc (place_in b bs)) (eq-eqb b b refl)
+place_nth (b ∷ bs) (suc k) n l =
+    let c : ℕ = get_or bs k 0 in
+    let i : In c bs = in_nth bs k (omega arith) in
+    let d : b ≢ c = λ e. n.0 (subst (λ (z : ℕ). In z bs) (sym e) i) in
+    let h : place_in c bs ≡ k = place_nth bs k n.1 (omega arith) in
+    if_false (b == c) 0 (suc (place_in c bs)) (not_eq b c d) ∙ ap suc h

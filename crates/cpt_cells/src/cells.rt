@@ -1,6 +1,6 @@
 //! A sheet in the cells of a trail.
 
-ghost use Rattle.std.specs.Prelude.{◌≡◌, ◌<◌, ◌≤◌, ◌+◌, ◌++◌, ◌∷◌, [], ◌^◌, ℕ, false, true, length, OnOk};
+ghost use Rattle.std.specs.Prelude.{◌≡◌, ◌<◌, ◌≤◌, ◌+◌, ◌++◌, ◌∷◌, [], ◌^◌, ℕ, false, true, length, slice_index, OnOk};
 ghost use Rattle.cpt_sheet.specs.Formed.{IsPlaced};
 ghost use Rattle.cpt_sheet.specs.Edits.{changed, with_posted};
 ghost use Rattle.cpt_sheet.specs.View.{span_of, kind_of, before, has, cands, token_at};
@@ -172,6 +172,20 @@ impl Cells {
         } else {
             false
         }
+    }
+
+    /// Whether an outside action is in the list of a token at a place among its preconditions, where the action is named by
+    /// its place among those that add the atom: their cells lie one behind the other.
+    pub fn lists_adder(&self, x: u32, j: usize, place: usize) -> bool
+        requires token { x < length self.now.sheet.tokens }
+        requires need { j < length (needs_at self.now.frame x) }
+        requires place { place < length (adders_at self.now.frame (atom_at self.now.frame x j)) }
+        ensures { result ≡ has (Cand.Out (slice_index (adders_at self.now.frame (atom_at self.now.frame x j)) place)) (list_in self.now.sheet x j) }
+    {
+        let adders = self.layout.adders(self.layout.needs(x)[j]);
+        let first = adders[0];
+        let cell = self.layout.out_cand_cell(x, j, first) + place;
+        self.trail.get(cell) == 1
     }
 
     /// What a token stands for.

@@ -3,9 +3,11 @@
 
 mod appending;
 mod cells;
+mod counting;
 mod lists;
 mod rows;
 mod spans;
+mod stepping;
 
 pub use cells::Cells;
 pub use rows::numbers;
