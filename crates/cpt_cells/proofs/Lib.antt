@@ -1,6 +1,7 @@
 pub mod Backing
 pub mod Chains
 pub mod Counts
+pub mod Deaths
 pub mod Growths
 pub mod Leaving
 pub mod Listed

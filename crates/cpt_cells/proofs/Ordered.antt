@@ -79,3 +79,6 @@ in_order s v x p l a =
           let e : cs ≡ [] = list_nowhere s v x p j l f (omega arith) in
           e ∙ sym (ap (λ (ds : List Cand). kept (λ d. has d ds) (all_cands s p)) e ∙ none_passes (all_cands s p))
     ]
+
+pub place_in_order : (s : Frame) (v : Place → ℕ) (x j : ℕ) → x < length s.kinds → j < length (needs_at s x) → list_in (sheet_from s v) x j ≡ kept (λ d. has d (list_in (sheet_from s v) x j)) (all_cands s (atom_at s x j))
+place_in_order s v x j l n = by_itself (is_cand v x j) (list_in (sheet_from s v) x j) (all_cands s (atom_at s x j)) (list_is s v x j l n)

@@ -133,6 +133,15 @@ impl Cells {
         let _ = &self.trail;
     }
 
+    /// The same of the list at a place among the preconditions of the token.
+    pub fn keeps_order_at(&self, x: u32, j: usize)
+        requires token { x < length self.now.sheet.tokens }
+        requires need { j < length (needs_at self.now.frame x) }
+        ensures { list_in self.now.sheet x j ≡ kept (λ c. has c (list_in self.now.sheet x j)) (all_cands self.now.frame (atom_at self.now.frame x j)) }
+    {
+        let _ = &self.trail;
+    }
+
     /// Whether a token is in the list of a token at a place among its preconditions.
     pub fn lists_token(&self, x: u32, j: usize, y: u32) -> bool
         requires token { x < length self.now.sheet.tokens }
@@ -311,6 +320,7 @@ impl Cells {
     pub fn undo_to<L: Ledger>(&mut self, mark: usize, steps: &mut Steps<L>)
         requires { mark < length self.old.marks }
         ensures back { IsBackAt mark self.old self.new }
+        ensures frame { (t : TaskShape) → IsFrameOf t self.old.frame → IsFrameOf t self.new.frame }
         ensures ticks { steps.new + written_of self.new.marks ≡ steps.old + written_of self.old.marks }
     {
         self.trail.undo_to(mark, steps);

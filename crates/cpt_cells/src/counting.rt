@@ -26,7 +26,7 @@ fn is_nth(listed: bool, passed: usize, place: usize) -> bool
 
 impl Cells {
     /// How many tokens are in a list.
-    fn count_tokens(&self, x: u32, j: usize) -> usize
+    pub(crate) fn count_tokens(&self, x: u32, j: usize) -> usize
         requires token { x < length self.now.sheet.tokens }
         requires need { j < length (needs_at self.now.frame x) }
         ensures value { result ≡ length (tokens_in (list_in self.now.sheet x j) (length self.now.frame.kinds)) }
@@ -41,7 +41,7 @@ impl Cells {
     }
 
     /// How many outside actions are in a list.
-    fn count_outs(&self, x: u32, j: usize) -> usize
+    pub(crate) fn count_outs(&self, x: u32, j: usize) -> usize
         requires token { x < length self.now.sheet.tokens }
         requires need { j < length (needs_at self.now.frame x) }
         ensures value { result ≡ length (outs_in (list_in self.now.sheet x j) (adders_at self.now.frame (atom_at self.now.frame x j))) }

@@ -4,6 +4,7 @@
 mod appending;
 mod cells;
 mod counting;
+mod dying;
 mod lists;
 mod rows;
 mod spans;

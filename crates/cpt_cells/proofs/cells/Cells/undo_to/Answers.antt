@@ -1,7 +1,9 @@
 use Rattle.std.proofs.Common.{arith, ◌≡◌, ◌∙◌, ℕ, length, get_or, ap, sym, subst}
 use Rattle.std.specs.Prelude.{map}
 use Rattle.std.proofs.lemmas.List.{length-map}
+use Rattle.cpt_task.specs.Shape.{TaskShape}
 use Rattle.cpt_layout.specs.Places.{Frame, cut}
+use Rattle.cpt_block.specs.Blocks.{IsFrameOf}
 use Rattle.cpt_layout.specs.Numbers.{base}
 use Rattle.cpt_cells.specs.Shapes.{CellsShape, IsBackAt, written_of}
 use Rattle.cpt_cells.specs.Marks.{count_at, mark_of, seen_by, IsHeldBy}
@@ -66,3 +68,11 @@ returns-clause-ticks g c =
     let b = written_is i.layout.frame i.trail.marks in
     let d : written_of (map (mark_of i.layout.frame) i.trail.marks) ≡ written_of c.args.self.now.marks = ap (λ (t : CellsShape). written_of t.marks) c.self.view_is in
     omega (arith, c.undo_to.ensures.ticks)
+
+frame_cut : (t : TaskShape) (f : Frame) (n : ℕ) → IsFrameOf t f → IsFrameOf t (cut f n)
+frame_cut t f n h = record { count = h.count; needs = h.needs; adders = h.adders }
+
+pub returns-clause-frame : goal.returns-clause-frame
+returns-clause-frame g c t h =
+    let f : IsFrameOf t c.self.inside.layout.frame = subst (λ (z : CellsShape). IsFrameOf t z.frame) (sym c.self.view_is) h in
+    subst (λ (z : Frame). IsFrameOf t z) (sym c.truncate.ensures.frame) (frame_cut t c.self.inside.layout.frame c.get-number.result f)
