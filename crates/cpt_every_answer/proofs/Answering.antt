@@ -1,5 +1,5 @@
 -- commands over accepted files have an answer
-use Rattle.std.proofs.Common.{◌≡◌, ℕ, ◌<◌, ◌≤◌, ◌⊎◌, inl, inr, Bool, true, false, List, length, map, Option, None, Some, Result, Ok, Err, IfSome, refl, sym, subst, arith}
+use Rattle.std.proofs.Common.{◌≡◌, ℕ, ◌≤◌, ◌⊎◌, inl, inr, Bool, true, false, List, length, map, Option, None, Some, Result, Ok, Err, IfSome, refl, subst, arith}
 use Rattle.std.specs.Prelude.{nat_lt, if◌then◌else◌}
 use Rattle.std.proofs.lemmas.Bool.{cases_lt, lt-ltb}
 use Rattle.cpt_io.specs.Meaning.{Files}
@@ -10,21 +10,18 @@ use Rattle.cpt_task_text.specs.Spelling.{spelling}
 use Rattle.cpt_plan_text.specs.declared.reading.PlanText.{PlanText}
 use Rattle.cpt_plan_text.specs.Knowing.{task_finds}
 use Rattle.cpt_plan_text.proofs.Finding.{knows_actions}
-use Rattle.cpt_reach.specs.declared.pruning.Pruned.{Pruned}
 use Rattle.cpt_reach.proofs.KeptLemmas.{kept_in_bounds}
 use Rattle.cpt_answer.specs.declared.ending.Ending.{Ending}
-use Rattle.cpt_answer.specs.declared.ending.Ending.TheVariants.{Because, Read}
+use Rattle.cpt_answer.specs.declared.ending.Ending.TheVariants.{Because}
 use Rattle.cpt_answer.specs.declared.ending.Cause.TheVariants.{Passed}
 use Rattle.cpt_answer.specs.Endings.{Answer, answer, answer_of, usage_answer}
 use Rattle.cpt_answer.specs.Giving.{Then, ThenBy}
-use Rattle.cpt_answer.specs.Promise.{IsAnswerOf}
 use Rattle.cpt_files.specs.declared.accepted.Accepted.{Accepted}
 use Rattle.cpt_files.specs.Accepted.{AcceptsTask, accepted}
 use Rattle.cpt_files.specs.Files.{task_under, plan_under}
 use Rattle.cpt_files.specs.Names.{kept_finds}
 use Rattle.cpt_files.proofs.Accepting.{accepted_is}
 use Rattle.cpt_files.proofs.Naming.{knows_kept}
-use Rattle.cpt_kept.specs.Kept.{HoldKept}
 use Rattle.cpt_validate.specs.Verdicts.{AnswersVerdict, JudgesFiles, JudgesPlan, accepted_plan, verdict_answer}
 use Rattle.cpt_validate.proofs.Zero.{plan_of_task}
 use Rattle.cpt_listing.specs.Listing.{ListsTask}
@@ -40,7 +37,7 @@ use Rattle.cpt_json_form.specs.Values.{task_value}
 use Rattle.cpt_json_files.specs.Faults.{json_line}
 use Rattle.cpt_json_files.specs.Exporting.{ExportsTask}
 use Rattle.cpt_words.specs.Words.{Asked, asked_in, benching, checking, counting, explaining, exporting, json_validation, judging, listing, proving, solving, tightening, trimming, validation}
-use Rattle.cpt_top.specs.Commands.{Answers, AnswersTo, IsSettled, Reaches}
+use Rattle.cpt_top.specs.Commands.{AnswersTo, IsSettled, Reaches}
 use Rattle.cpt_top.proofs.Once.{one_answer}
 use Rattle.cpt_decidable.proofs.Verdicts.{verdict_of}
 use Rattle.cpt_every_ruling.proofs.Ruling.{each_text_has_a_ruling}
