@@ -1,2 +1,3 @@
 pub mod IndexLemmas
 pub mod NeedLemmas
+pub mod RowLemmas

@@ -2,5 +2,6 @@
 #![tactic(auto)]
 
 mod index;
+mod rows;
 
-pub use index::{AtomLists, Index, index_of};
+pub use index::{Index, Seat, index_of};

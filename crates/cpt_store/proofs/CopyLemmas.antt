@@ -1,5 +1,5 @@
 -- copies of tasks are tasks
-use Rattle.std.proofs.Common.{◌≡◌, ℕ, List, inr, sym, subst}
+use Rattle.std.proofs.Common.{◌≡◌, ℕ, List, inr, subst}
 use Rattle.std.proofs.lemmas.Option.{get_or_from_slice_get, slice_get_within}
 use Rattle.cpt_task.specs.declared.task.Action.{Action}
 use Rattle.cpt_task.specs.declared.task.BuildError.{BuildError}

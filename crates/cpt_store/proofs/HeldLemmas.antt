@@ -1,6 +1,5 @@
 -- sheets that are held
 use Rattle.std.proofs.Common.{◌≡◌, ℕ, sum_by, zero, suc, ◌+◌, ◌*◌, ◌≤◌, ◌<◌, List, [], ◌∷◌, ◌++◌, Bool, true, false, ◌||◌, ◌&&◌, ◌==◌, if◌then◌else◌, length, refl, sym, ◌∙◌, ap, subst, arith, length-set, vec_len, vec_capacity, take, get_or, map, set}
-use Rattle.std.proofs.lemmas.Bool.{or_left, eq-eqb, and_from, cases_Bool}
 use Rattle.std.proofs.Math.Nat.{mul-le-mul_right, mul-le-mul_left, suc-mul}
 use Rattle.cpt_task.specs.declared.span.Span.{Span}
 use Rattle.cpt_task.specs.Shape.{TaskShape}
@@ -18,18 +17,18 @@ use Rattle.cpt_sheet.specs.View.{before, has_order, token_at, no_token}
 use Rattle.std.proofs.lemmas.Option.{unwrap_or-slice_get}
 use Rattle.cpt_sheet.specs.Edits.{changed, posted}
 use Rattle.cpt_sheet.specs.Formed.{IsFormed}
-use Rattle.cpt_calculus.specs.Rules.{IsLegal, Moves, change_of, narrowed}
+use Rattle.cpt_calculus.specs.Rules.{IsLegal, change_of, narrowed}
 use Rattle.cpt_calculus.specs.Decisions.{applied, joined, with_offers, brought, offered}
 use Rattle.cpt_calculus.proofs.Below.{order_posted}
 use Rattle.cpt_calculus.proofs.Keeps.{step_formed}
-use Rattle.std.proofs.lemmas.List.{length-map, take_more}
+use Rattle.std.proofs.lemmas.List.{length-map, map-append, take_more}
 use Rattle.std.proofs.Common.{length-append}
 use Rattle.cpt_steps.specs.Room.{interval_room, sum_below, order_room, orders_room, room, token_room}
 use Rattle.cpt_steps.proofs.RoomLemmas.{steps_lessen}
 use Rattle.cpt_store.specs.declared.held.Held.{Held}
 use Rattle.cpt_sheet.specs.declared.data.Kind.{Kind}
-use Rattle.cpt_store.specs.Held.{orders_with, sheet_of, HasRoom, IsLegalFor, IsHeldFor}
-use Rattle.cpt_index.specs.Index.{kinds_of, IsIndexOf}
+use Rattle.cpt_store.specs.Held.{brings, kinds_with, orders_with, sheet_of, HasRoom, IsLegalFor, IsHeldFor}
+use Rattle.cpt_index.specs.Index.{kinds_of}
 
 pub orders_with-snoc : (os es : List (ℕ × ℕ)) (x y : ℕ) → orders_with os (es ++ (x, y) ∷ []) ≡ posted x y (orders_with os es)
 orders_with-snoc os [] x y = refl
@@ -81,19 +80,19 @@ room_new h n e f c =
     let l : n * n ≡ length h.base.tokens * length h.base.tokens = ap (λ z. z * z) f in
     record { room = omega arith }
 
-pub room_raised : (h : Held) (c : Cand) (v : Span) → HasRoom h → HasRoom (record { base = changed h.base (Raise c v); extra = h.extra; index = h.index })
+pub room_raised : (h : Held) (c : Cand) (v : Span) → HasRoom h → HasRoom (record { base = changed h.base (Raise c v); extra = h.extra })
 room_raised h (Tok x) v r =
     let e : (y : ℕ) → length (changed h.base (Raise (Tok x) v)).tokens ≡ length h.base.tokens = λ y. length-set h.base.tokens x _ in
     record { room = subst (λ n. vec_len h.extra + orders_room (sheet_of h) n ≤ vec_capacity h.extra) (sym (e 0)) r.room }
 room_raised h (Out a) v r = record { room = r.room }
 
-pub room_lowered : (h : Held) (c : Cand) (v : Span) → HasRoom h → HasRoom (record { base = changed h.base (Lower c v); extra = h.extra; index = h.index })
+pub room_lowered : (h : Held) (c : Cand) (v : Span) → HasRoom h → HasRoom (record { base = changed h.base (Lower c v); extra = h.extra })
 room_lowered h (Tok x) v r =
     let e : (y : ℕ) → length (changed h.base (Lower (Tok x) v)).tokens ≡ length h.base.tokens = λ y. length-set h.base.tokens x _ in
     record { room = subst (λ n. vec_len h.extra + orders_room (sheet_of h) n ≤ vec_capacity h.extra) (sym (e 0)) r.room }
 room_lowered h (Out a) v r = record { room = r.room }
 
-pub room_taken : (h : Held) (x p : ℕ) (c : Cand) → HasRoom h → HasRoom (record { base = changed h.base (Take x p c); extra = h.extra; index = h.index })
+pub room_taken : (h : Held) (x p : ℕ) (c : Cand) → HasRoom h → HasRoom (record { base = changed h.base (Take x p c); extra = h.extra })
 room_taken h x p c r =
     let e : (y : ℕ) → length (changed h.base (Take x p c)).tokens ≡ length h.base.tokens = λ y. length-set h.base.tokens x _ in
     record { room = subst (λ n. vec_len h.extra + orders_room (sheet_of h) n ≤ vec_capacity h.extra) (sym (e 0)) r.room }
@@ -149,48 +148,47 @@ kinds_changed s (Post x y) = refl
 
 -- what is held after the change of a legal step is held for the task
 pub held_after : (t : TaskShape) (h g : Held) (step : Step) (ch : Change) → IsHeldFor t h → IsLegalFor t (sheet_of h) step → ch ≡ change_of (sheet_of h) step →
-    sheet_of g ≡ changed (sheet_of h) ch → g.index ≡ h.index → HasRoom g → IsHeldFor t g
-held_after t h g step ch held can e s i r =
+    sheet_of g ≡ changed (sheet_of h) ch → HasRoom g → IsHeldFor t g
+held_after t h g step ch held can e s r =
     let kinds : kinds_of g.base ≡ kinds_of h.base = ap (λ (z : Sheet). kinds_of z) s ∙ kinds_changed (sheet_of h) ch in
     let formed : IsFormed t (narrowed (sheet_of h) step) = step_formed t can.tables (sheet_of h) step held.formed can.legal in
     record {
       room = r;
       formed = subst (λ (z : Sheet). IsFormed t z) (sym (s ∙ ap (λ (z : Change). changed (sheet_of h) z) e)) formed;
       few = omega (arith, held.few, sym (length-map g.base.tokens (λ (w : Token). w.kind)) ∙ (ap length kinds ∙ length-map h.base.tokens (λ (w : Token). w.kind)));
-      indexed = subst (λ ks. IsIndexOf t ks g.index) (sym kinds) (subst (λ z. IsIndexOf t (kinds_of h.base) z) (sym i) held.indexed);
     }
 
 -- the four changes
-pub held_raised : (t : TaskShape) (h : Held) (z : Sheet) (step : Step) (c : Cand) (v : Span) → IsHeldFor t h → IsLegalFor t (sheet_of h) step → Raise c v ≡ change_of (sheet_of h) step → z ≡ changed h.base (Raise c v) → IsHeldFor t (record { base = z; extra = h.extra; index = h.index })
+pub held_raised : (t : TaskShape) (h : Held) (z : Sheet) (step : Step) (c : Cand) (v : Span) → IsHeldFor t h → IsLegalFor t (sheet_of h) step → Raise c v ≡ change_of (sheet_of h) step → z ≡ changed h.base (Raise c v) → IsHeldFor t (record { base = z; extra = h.extra })
 held_raised t h z step c v held can e b =
-    let k : IsHeldFor t (record { base = changed h.base (Raise c v); extra = h.extra; index = h.index }) =
-    held_after t h (record { base = changed h.base (Raise c v); extra = h.extra; index = h.index }) step (Raise c v) held can e (same c) refl (room_raised h c v held.room) in
-    subst (λ (w : Sheet). IsHeldFor t (record { base = w; extra = h.extra; index = h.index })) (sym b) k
+    let k : IsHeldFor t (record { base = changed h.base (Raise c v); extra = h.extra }) =
+    held_after t h (record { base = changed h.base (Raise c v); extra = h.extra }) step (Raise c v) held can e (same c) (room_raised h c v held.room) in
+    subst (λ (w : Sheet). IsHeldFor t (record { base = w; extra = h.extra })) (sym b) k
   where
-    same : (c : Cand) → sheet_of (record { base = changed h.base (Raise c v); extra = h.extra; index = h.index }) ≡ changed (sheet_of h) (Raise c v)
+    same : (c : Cand) → sheet_of (record { base = changed h.base (Raise c v); extra = h.extra }) ≡ changed (sheet_of h) (Raise c v)
     same (Tok x) = refl
     same (Out a) = refl
 
-pub held_lowered : (t : TaskShape) (h : Held) (z : Sheet) (step : Step) (c : Cand) (v : Span) → IsHeldFor t h → IsLegalFor t (sheet_of h) step → Lower c v ≡ change_of (sheet_of h) step → z ≡ changed h.base (Lower c v) → IsHeldFor t (record { base = z; extra = h.extra; index = h.index })
+pub held_lowered : (t : TaskShape) (h : Held) (z : Sheet) (step : Step) (c : Cand) (v : Span) → IsHeldFor t h → IsLegalFor t (sheet_of h) step → Lower c v ≡ change_of (sheet_of h) step → z ≡ changed h.base (Lower c v) → IsHeldFor t (record { base = z; extra = h.extra })
 held_lowered t h z step c v held can e b =
-    let k : IsHeldFor t (record { base = changed h.base (Lower c v); extra = h.extra; index = h.index }) =
-    held_after t h (record { base = changed h.base (Lower c v); extra = h.extra; index = h.index }) step (Lower c v) held can e (same c) refl (room_lowered h c v held.room) in
-    subst (λ (w : Sheet). IsHeldFor t (record { base = w; extra = h.extra; index = h.index })) (sym b) k
+    let k : IsHeldFor t (record { base = changed h.base (Lower c v); extra = h.extra }) =
+    held_after t h (record { base = changed h.base (Lower c v); extra = h.extra }) step (Lower c v) held can e (same c) (room_lowered h c v held.room) in
+    subst (λ (w : Sheet). IsHeldFor t (record { base = w; extra = h.extra })) (sym b) k
   where
-    same : (c : Cand) → sheet_of (record { base = changed h.base (Lower c v); extra = h.extra; index = h.index }) ≡ changed (sheet_of h) (Lower c v)
+    same : (c : Cand) → sheet_of (record { base = changed h.base (Lower c v); extra = h.extra }) ≡ changed (sheet_of h) (Lower c v)
     same (Tok x) = refl
     same (Out a) = refl
 
-pub held_taken : (t : TaskShape) (h : Held) (z : Sheet) (step : Step) (x p : ℕ) (c : Cand) → IsHeldFor t h → IsLegalFor t (sheet_of h) step → Take x p c ≡ change_of (sheet_of h) step → z ≡ changed h.base (Take x p c) → IsHeldFor t (record { base = z; extra = h.extra; index = h.index })
+pub held_taken : (t : TaskShape) (h : Held) (z : Sheet) (step : Step) (x p : ℕ) (c : Cand) → IsHeldFor t h → IsLegalFor t (sheet_of h) step → Take x p c ≡ change_of (sheet_of h) step → z ≡ changed h.base (Take x p c) → IsHeldFor t (record { base = z; extra = h.extra })
 held_taken t h z step x p c held can e b =
-    let k : IsHeldFor t (record { base = changed h.base (Take x p c); extra = h.extra; index = h.index }) =
-    held_after t h (record { base = changed h.base (Take x p c); extra = h.extra; index = h.index }) step (Take x p c) held can e refl refl (room_taken h x p c held.room) in
-    subst (λ (w : Sheet). IsHeldFor t (record { base = w; extra = h.extra; index = h.index })) (sym b) k
+    let k : IsHeldFor t (record { base = changed h.base (Take x p c); extra = h.extra }) =
+    held_after t h (record { base = changed h.base (Take x p c); extra = h.extra }) step (Take x p c) held can e refl (room_taken h x p c held.room) in
+    subst (λ (w : Sheet). IsHeldFor t (record { base = w; extra = h.extra })) (sym b) k
 
-pub held_posted : (t : TaskShape) (h g : Held) (step : Step) (x y : ℕ) → IsHeldFor t h → IsLegalFor t (sheet_of h) step → Post x y ≡ change_of (sheet_of h) step → g.base ≡ h.base → g.index ≡ h.index →
+pub held_posted : (t : TaskShape) (h g : Held) (step : Step) (x y : ℕ) → IsHeldFor t h → IsLegalFor t (sheet_of h) step → Post x y ≡ change_of (sheet_of h) step → g.base ≡ h.base →
     g.extra.items ≡ h.extra.items ++ (x, y) ∷ [] → vec_len g.extra ≡ vec_len h.extra + 1 → vec_capacity g.extra ≡ vec_capacity h.extra → IsHeldFor t g
-held_posted t h g step x y held can e b i items len cap =
-    held_after t h g step (Post x y) held can e (posted_same h x y g.base g.extra.items b items) i (room_posted h g step x y t held.formed can e held.room b items len cap)
+held_posted t h g step x y held can e b items len cap =
+    held_after t h g step (Post x y) held can e (posted_same h x y g.base g.extra.items b items) (room_posted h g step x y t held.formed can e held.room b items len cap)
 
 -- a decision brings one token at most
 pub tokens_applied : (t : TaskShape) (s : Sheet) (d : Decision) → length (applied t s d).tokens ≤ length s.tokens + 1
@@ -203,6 +201,19 @@ tokens_applied t s (Bring x p a) =
     let k = f 0 in
     let m : length (with_offers s a n).tokens ≡ n = length-map s.tokens (offered a n) in
     omega arith
+
+-- what the tokens stand for after a decision
+offered_kinds : (a n : ℕ) (zs : List Token) → map (λ (w : Token). w.kind) (map (offered a n) zs) ≡ map (λ (w : Token). w.kind) zs
+offered_kinds a n [] = refl
+offered_kinds a n (z ∷ zs) = ap (λ ks. z.kind ∷ ks) (offered_kinds a n zs)
+
+pub kinds_applied : (t : TaskShape) (s : Sheet) (d : Decision) → kinds_of (applied t s d) ≡ kinds_with (kinds_of s) (brings d)
+kinds_applied t s (Join x p y) = set_kinds s.tokens x _ (here s x)
+kinds_applied t s (Before x y) = refl
+kinds_applied t s (Bring x p a) =
+    map-append (λ (w : Token). w.kind) (joined (with_offers s a (length s.tokens)) x p (length s.tokens)).tokens (brought t s a ∷ [])
+    ∙ ap (λ (ks : List Kind). ks ++ (brought t s a).kind ∷ [])
+    (set_kinds (with_offers s a (length s.tokens)).tokens x _ (here (with_offers s a (length s.tokens)) x) ∙ offered_kinds a (length s.tokens) s.tokens)
 
 -- the square of a number of tokens fits
 pub square_fits : (n : ℕ) → n ≤ 4200000000 → n * n < 18446744073709551616

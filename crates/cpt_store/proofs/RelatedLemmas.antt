@@ -1,23 +1,19 @@
 -- what no test of a list finds is not there
-use Rattle.std.proofs.Common.{◌≡◌, ◌≢◌, ◌≤◌, ℕ, List, All, Bool, true, false, MatchBool, length, sym, ◌∙◌, ap, subst, inl, inr, unwrap_or}
+use Rattle.std.proofs.Common.{◌≡◌, ◌≤◌, ℕ, List, All, true, length, sym, ◌∙◌, ap, subst, inl, inr, unwrap_or}
 use Rattle.std.proofs.lemmas.List.Elements.{All-contains}
 use Rattle.std.proofs.lemmas.Option.{slice_get_past}
 use Rattle.cpt_task.specs.Shape.{TaskShape}
 use Rattle.cpt_tables.specs.Admissible.{nth_action}
-use Rattle.cpt_tables.specs.declared.tables.Tables.{Tables}
 use Rattle.cpt_sheet.specs.declared.data.Cand.{Cand}
 use Rattle.cpt_sheet.specs.declared.data.Cand.TheVariants.{Tok}
-use Rattle.cpt_sheet.specs.declared.data.Change.{Change}
 use Rattle.cpt_sheet.specs.declared.data.Kind.{Kind}
 use Rattle.cpt_sheet.specs.declared.data.Kind.TheVariants.{Act}
 use Rattle.cpt_sheet.specs.declared.data.Sheet.{Sheet}
-use Rattle.cpt_sheet.specs.declared.data.Step.{Step}
 use Rattle.cpt_sheet.specs.declared.data.Token.{Token}
-use Rattle.cpt_sheet.specs.Formed.{IsFormed}
 use Rattle.cpt_sheet.specs.Roles.{adds_of, Deletes}
-use Rattle.cpt_sheet.specs.View.{kind_of, cands, has_need, has_atom, no_token, same}
-use Rattle.cpt_calculus.specs.Rules.{IsToken, only, change_of}
-use Rattle.cpt_waking.specs.Waking.{CanWake, Feeds, Harms, Helps, Loses, StaysClosed, TakenWakes}
+use Rattle.cpt_sheet.specs.View.{kind_of, cands, has_need, has_atom, no_token}
+use Rattle.cpt_calculus.specs.Rules.{IsToken, only}
+use Rattle.cpt_waking.specs.Waking.{Feeds, Harms, Helps, Loses, TakenWakes}
 use Rattle.cpt_index.specs.Lists.{IsNeed, Lists}
 use Rattle.cpt_store.specs.Related.{IsNotAdded, IsNotDeleted, IsNotHeld}
 

@@ -1,4 +1,4 @@
-//! A sheet with room for each order that can still be posted, and with its lists.
+//! A sheet with room for each order that can still be posted.
 
 ghost use Rattle.std.specs.Prelude.{◌≡◌, ◌<◌, ◌≤◌, ◌^◌, ◌==◌, ◌++◌, ◌∷◌, [], length, slice_get, unwrap_or, IsSomeAnd, IfOk, OnOk, OnErr, vec_len, vec_capacity};
 ghost use Rattle.cpt_sheet.specs.Edits.{changed, with_span, without, revised, moment_or};
@@ -6,20 +6,17 @@ ghost use Rattle.cpt_sheet.specs.Formed.{IsFormed};
 ghost use Rattle.cpt_sheet.specs.View.{span_of, hi, same, no_need, before};
 ghost use Rattle.cpt_calculus.specs.Rules.{narrowed, change_of, only};
 ghost use Rattle.cpt_store.specs.Held.{sheet_of, IsLegalFor, IsHeldFor};
-ghost use Rattle.cpt_index.specs.Index.{kinds_of};
 
 use cpt_calculus::{copy_sheet, narrow};
-use cpt_index::{Index, index_of};
-use cpt_sheet::{Cand, Change, Kind, Need, Sheet, Step, is_posted, is_same, list, span, stands};
+use cpt_sheet::{Cand, Change, Need, Sheet, Step, is_posted, is_same, list, span, stands};
 use cpt_task::{List, Memory, Span, Task};
 use std::alloc::Global;
 
-/// A sheet, the orders that were posted since it was copied, and its lists.
+/// A sheet, and the orders that were posted since it was copied.
 #[derive(Drop)]
 pub(crate) struct Held {
     pub base: Sheet,
     pub extra: Vec<(u32, u32)>,
-    pub index: Index,
 }
 
 fn first_token(list: &[Cand]) -> u32
@@ -203,31 +200,17 @@ pub(crate) fn holds_order(held: &Held, first: u32, second: u32) -> bool
     stands(&held.base, first, second) || is_posted(&held.extra, first, second)
 }
 
-fn kinds(alloc: Global, sheet: &Sheet) -> Result<Vec<Kind>, Memory>
-    ensures { IfOk result (λ v. v.items ≡ kinds_of sheet.now) }
-{
-    Ok(
-        sheet
-            .tokens
-            .as_slice()
-            .iter()
-            .map(|token| token.kind)
-            .collect(alloc)?,
-    )
-}
-
-/// A sheet with room for its orders, and with its lists.
+/// A sheet with room for its orders.
 pub(crate) fn hold(alloc: Global, task: &Task, base: Sheet) -> Result<Held, Memory>
     requires few { length base.tokens ≤ 4200000000 }
     requires formed { IsFormed task.now base }
     ensures sheet { IfOk result (λ h. sheet_of h ≡ base) }
     ensures held { IfOk result (IsHeldFor task.now) }
 {
+    let _ = task;
     let count = base.tokens.as_slice().len();
     let extra = Vec::with_capacity(alloc, count * count)?;
-    let kinds = kinds(alloc, &base)?;
-    let index = index_of(alloc, task, &kinds)?;
-    Ok(Held { base, extra, index })
+    Ok(Held { base, extra })
 }
 
 /// The sheet that is held.

@@ -8,13 +8,15 @@ ghost use Rattle.cpt_sheet.specs.View.{before, cands, has, kind_of, span_of};
 ghost use Rattle.cpt_calculus.specs.Rules.{IsToken, narrowed};
 ghost use Rattle.cpt_calculus.specs.Decisions.{applied, Fits};
 ghost use Rattle.cpt_calculus.specs.Root.{root_of};
-ghost use Rattle.cpt_store.specs.Held.{IsHeldFor, sheet_of};
+ghost use Rattle.cpt_store.specs.Held.{IsHeldFor, IsSeatFor, IsSeated, kind_in, kinds_with, sheet_of};
+ghost use Rattle.cpt_index.specs.Index.{IsIndexOf, kinds_in, kinds_of};
 ghost use Rattle.cpt_index.specs.Lists.{IsConsumer, IsDeleter, IsOffer, IsRival, Lists};
 ghost use Rattle.cpt_store.specs.Stores.{CanNarrow, IsBack, IsLent, IsReady, IsSpent, KeepsMarks};
 
 use crate::copies::copy_task;
 use crate::held::{Held, copied, hold, holds_order, revise};
 use cpt_calculus::{apply, root};
+use cpt_index::{Index, Seat, index_of};
 use cpt_sheet::{
     Cand, Decision, Interval, Kind, Sheet, Step, is_dead, is_listed, kind, list, span,
 };
@@ -34,17 +36,20 @@ pub struct Ctx<'a> {
 /// Where a step lands: a token, or the outside occurrences of an action.
 pub type Subject = Cand;
 
-/// A decision, and the sheet after it.
+/// A decision, the sheet after it, and the token that it brings.
 #[derive(Drop)]
 struct Next {
     decision: Decision,
     held: Held,
+    seat: Option<Seat>,
 }
 
-/// A sheet of a task that goes back to its marks. It is moved by copies, which are made where room is reserved.
+/// A sheet of a task that goes back to its marks. It is moved by copies, which are made where room is reserved. The lists
+/// of its atoms and actions grow and shrink with its tokens.
 #[derive(Drop)]
 pub struct Store {
     task: Task,
+    index: Index,
     held: Held,
     spare: Option<Held>,
     next: Option<Next>,
@@ -84,6 +89,54 @@ fn prepared(
     Ok((same, after))
 }
 
+/// What the tokens of a sheet stand for.
+fn kinds(alloc: Global, sheet: &Sheet) -> Result<Vec<Kind>, Memory>
+    ensures { IfOk result (λ v. v.items ≡ kinds_of sheet.now) }
+{
+    Ok(
+        sheet
+            .tokens
+            .as_slice()
+            .iter()
+            .map(|token| token.kind)
+            .collect(alloc)?,
+    )
+}
+
+/// The lists of a sheet.
+fn indexed(alloc: Global, task: &Task, sheet: &Sheet) -> Result<Index, Memory>
+    requires { length sheet.now.tokens < 2 ^ 32 }
+    ensures { IfOk result (IsIndexOf task.now (kinds_of sheet.now)) }
+{
+    let kinds = kinds(alloc, sheet)?;
+    index_of(alloc, task, &kinds)
+}
+
+/// Room in the lists for the token that a decision brings.
+fn seat_for(index: &mut Index, task: &Task, decision: &Decision) -> Result<Option<Seat>, Memory>
+    requires { IsIndexOf task.now (kinds_in index.old) index.old }
+    ensures same { IsIndexOf task.now (kinds_in index.old) index.new }
+    ensures seat { IfOk result (IsSeatFor task.now index.new decision.now) }
+{
+    match *decision {
+        Decision::Bring { act, .. } => Ok(Some(index.reserve(task, Kind::Act(act))?)),
+        Decision::Join { .. } => Ok(None),
+        Decision::Before { .. } => Ok(None),
+    }
+}
+
+/// The token that a decision brought joins the lists. It takes no memory.
+fn seated(index: &mut Index, task: &Task, seat: Option<Seat>)
+    requires index { IsIndexOf task.now (kinds_in index.old) index.old }
+    requires seat { IsSeated task.now index.old seat }
+    requires few { length (kinds_in index.old) < 2 ^ 32 }
+    ensures { IsIndexOf task.now (kinds_with (kinds_in index.old) (kind_in seat)) index.new }
+{
+    if let Some(seat) = seat {
+        index.push(task, seat);
+    }
+}
+
 impl Store {
     /// The root sheet of a bound, with room for its steps.
     pub fn root(alloc: Global, ctx: &Ctx, bound: u64) -> Result<Store, Memory>
@@ -98,9 +151,11 @@ impl Store {
         let _ = ctx.tables.dists.actions();
         let sheet = root(alloc, ctx.task, ctx.tables, bound)?;
         let task = copy_task(alloc, ctx.task)?;
+        let index = indexed(alloc, &task, &sheet)?;
         let held = hold(alloc, &task, sheet)?;
         Ok(Store {
             task,
+            index,
             held,
             spare: None,
             next: None,
@@ -219,28 +274,28 @@ impl Store {
     pub fn offers(&self, p: u32) -> &[Cand]
         ensures { Lists (IsOffer self.now.task self.now.sheet p) result.now }
     {
-        self.held.index.offers(p)
+        self.index.offers(p)
     }
 
     /// The tokens that delete the atom.
     pub fn deleters(&self, p: u32) -> &[u32]
         ensures { Lists (IsDeleter self.now.task self.now.sheet p) result.now }
     {
-        self.held.index.deleters(p)
+        self.index.deleters(p)
     }
 
     /// The tokens that need the atom.
     pub fn consumers(&self, p: u32) -> &[u32]
         ensures { Lists (IsConsumer self.now.sheet p) result.now }
     {
-        self.held.index.consumers(p)
+        self.index.consumers(p)
     }
 
     /// The tokens that interfere with the action.
     pub fn rivals(&self, act: u32) -> &[u32]
         ensures { Lists (IsRival self.now.task self.now.sheet act) result.now }
     {
-        self.held.index.rivals(act)
+        self.index.rivals(act)
     }
 
     /// Makes a legal step. It takes no memory.
@@ -275,10 +330,12 @@ impl Store {
         self.kept.reserve(1)?;
         let alloc = *self.kept.allocator();
         let (same, after) = prepared(alloc, &self.task, &self.held, decision)?;
+        let seat = seat_for(&mut self.index, &self.task, decision)?;
         self.spare = Some(same);
         self.next = Some(Next {
             decision: *decision,
             held: after,
+            seat,
         });
         Ok(())
     }
@@ -296,7 +353,8 @@ impl Store {
     {
         steps.tick();
         self.spare = None;
-        if let Some(Next { held, .. }) = self.next.take() {
+        if let Some(Next { held, seat, .. }) = self.next.take() {
+            seated(&mut self.index, &self.task, seat);
             self.held = held;
         }
     }
@@ -329,6 +387,8 @@ impl Store {
         self.spare = None;
         self.next = None;
         if let Some(held) = self.kept.pop() {
+            let count = held.base.tokens.as_slice().len();
+            self.index.shorten(&self.task, count);
             self.held = held;
         }
     }

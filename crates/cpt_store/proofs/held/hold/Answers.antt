@@ -1,8 +1,6 @@
-use Rattle.std.proofs.Common.{◌≡◌, ℕ, ◌∙◌, ap, List, length, sym, subst}
-use Rattle.cpt_sheet.specs.declared.data.Kind.{Kind}
+use Rattle.std.proofs.Common.{ℕ, ap, List, length, sym, subst}
 use Rattle.cpt_sheet.specs.declared.data.Sheet.{Sheet}
 use Rattle.cpt_sheet.specs.Formed.{IsFormed}
-use Rattle.cpt_index.specs.Index.{IsIndexOf}
 use Rattle.cpt_store.specs.Held.{orders_with}
 use Rattle.cpt_store.proofs.HeldLemmas.{room_new}
 use Rattle.cpt_store.proofs.held.hold.Goals as goal
@@ -12,5 +10,4 @@ returns-clause-held c = record {
   room = room_new _ (length c.as_slice-count.result.now) c.in_ok-extra.ensures.len (ap length c.as_slice-count.ensures) c.in_ok-extra.ensures.exact;
   formed = subst (λ (os : List (ℕ × ℕ)). IsFormed c.args.task.now (let z : Sheet = record (c.args.base) { orders = orders_with c.args.base.orders os } in z)) (sym c.in_ok-extra.ensures.items) c.requires.formed;
   few = c.requires.few;
-  indexed = subst (λ (ks : List Kind). IsIndexOf c.args.task.now ks c.in_ok-index.index) (c.deref.ensures.value ∙ c.in_ok-kinds.ensures) c.in_ok-index.ensures;
 }

@@ -28,5 +28,5 @@ returns-in-Post-clause-sheet c =
 
 pub returns-in-Post-clause-held : goal.returns-in-Post-clause-held
 returns-in-Post-clause-held c =
-    held_posted c.args.task.now c.args.held.now _ c.args.step.now c.in-Post.first c.in-Post.second c.requires.held c.requires.can c.in-Post.ensures refl refl c.push_reserved.ensures.items
+    held_posted c.args.task.now c.args.held.now _ c.args.step.now c.in-Post.first c.in-Post.second c.requires.held c.requires.can c.in-Post.ensures refl c.push_reserved.ensures.items
     c.push_reserved.ensures.len c.push_reserved.ensures.capacity

@@ -8,4 +8,4 @@ use Rattle.cpt_store.proofs.store.Store.consumers.Goals as goal
 pub returns : goal.returns
 returns c =
     seen (λ (h : StoreShape). IsConsumer h.sheet c.args.p) c.args.self.now _ _ _ c.self.view_is c.consumers.ensures
-    (consumers_seen c.self.inside.task (sheet_of c.self.inside.held) c.self.inside.held.index c.args.p c.self.invariant.held.formed c.self.invariant.held.indexed)
+    (consumers_seen c.self.inside.task (sheet_of c.self.inside.held) c.self.inside.index c.args.p c.self.invariant.held.formed c.self.invariant.indexed)

@@ -8,4 +8,4 @@ use Rattle.cpt_store.proofs.store.Store.deleters.Goals as goal
 pub returns : goal.returns
 returns c =
     seen (λ (h : StoreShape). IsDeleter h.task h.sheet c.args.p) c.args.self.now _ _ _ c.self.view_is c.deleters.ensures
-    (deleters_seen c.self.inside.task (sheet_of c.self.inside.held) c.self.inside.held.index c.args.p c.self.invariant.held.indexed)
+    (deleters_seen c.self.inside.task (sheet_of c.self.inside.held) c.self.inside.index c.args.p c.self.invariant.indexed)

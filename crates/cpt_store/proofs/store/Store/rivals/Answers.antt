@@ -8,4 +8,4 @@ use Rattle.cpt_store.proofs.store.Store.rivals.Goals as goal
 pub returns : goal.returns
 returns c =
     seen (λ (h : StoreShape). IsRival h.task h.sheet c.args.act) c.args.self.now _ _ _ c.self.view_is c.rivals.ensures
-    (rivals_seen c.self.inside.task (sheet_of c.self.inside.held) c.self.inside.held.index c.args.act c.self.invariant.held.indexed)
+    (rivals_seen c.self.inside.task (sheet_of c.self.inside.held) c.self.inside.index c.args.act c.self.invariant.indexed)
