@@ -2,7 +2,10 @@
 
 ghost use Rattle.std.specs.Prelude.{◌≤◌, length};
 
-use crate::scene::{CHAIN, CHAIN_TASK, FAULTY, LONG_CHAIN, MIXED, MIXED_TASK, task_of};
+use crate::scene::{
+    CHAIN, CHAIN_TASK, FAULTY, LONG_CHAIN, MIXED, MIXED_TASK, SHARED, SHARED_TASK, TRUCKS,
+    TRUCKS_TASK, task_of,
+};
 use cpt_cert_form::{Claim, Version};
 use cpt_check::{Ruling, Why};
 use cpt_check_text::check_text;
@@ -94,14 +97,19 @@ fn a_text_that_is_no_certificate_is_refused(rt: HostRuntime) -> Result<(), Fail>
     Ok(())
 }
 
-/// What is left of a certificate with steps of many rules, some of which are needless.
-fn trimmed_mixed(rt: &impl Abort, alloc: Global, task: &Task) -> Result<String, Fail> {
-    let Some(Ok(less)) = trimmed(alloc, task, MIXED.as_bytes()) else {
-        return Err("trim".into());
+/// What is left of a certificate, of which some lines are dropped.
+fn trimmed_text(rt: &impl Abort, alloc: Global, task: &Task, text: &str) -> Result<String, Fail> {
+    let less = match trimmed(alloc, task, text.as_bytes()) {
+        Some(Ok(less)) => less,
+        Some(Err(e)) => {
+            assert_eq!(rt; e, TrimError::Memory);
+            return Err("trim".into());
+        }
+        None => return Err("trim".into()),
     };
     let dropped = less.dropped.as_slice();
     assert!(rt; !dropped.is_empty());
-    let left = without(alloc, MIXED, dropped).ok_or("left")?;
+    let left = without(alloc, text, dropped).ok_or("left")?;
     Ok(left)
 }
 
@@ -129,12 +137,39 @@ fn expect_least(rt: &impl Abort, alloc: Global, task: &Task, left: &str) -> Resu
     Ok(())
 }
 
-#[test]
-fn no_further_line_can_go(rt: HostRuntime) -> Result<(), Fail> {
-    let alloc = rt.alloc();
-    let task = task_of(alloc, MIXED_TASK).ok_or("task")?;
-    let left = trimmed_mixed(&rt, alloc, &task)?;
+/// Some lines of a certificate can go, and then no further line.
+fn expect_trimmed(rt: &impl Abort, alloc: Global, task: &str, text: &str) -> Result<(), Fail> {
+    let task = task_of(alloc, task).ok_or("task")?;
+    let left = trimmed_text(rt, alloc, &task, text)?;
     let accepted = is_accepted(alloc, &task, left.as_bytes())?;
     assert!(rt; accepted);
-    expect_least(&rt, alloc, &task, &left)
+    expect_least(rt, alloc, &task, &left)
+}
+
+#[test]
+fn no_further_line_of_many_rules_can_go(rt: HostRuntime) -> Result<(), Fail> {
+    expect_trimmed(&rt, rt.alloc(), MIXED_TASK, MIXED)
+}
+
+#[test]
+fn no_further_line_on_a_shared_resource_can_go(rt: HostRuntime) -> Result<(), Fail> {
+    expect_trimmed(&rt, rt.alloc(), SHARED_TASK, SHARED)
+}
+
+#[test]
+fn no_further_line_on_two_trucks_can_go(rt: HostRuntime) -> Result<(), Fail> {
+    expect_trimmed(&rt, rt.alloc(), TRUCKS_TASK, TRUCKS)
+}
+
+#[test]
+fn needless_steps_of_a_node_are_dropped(rt: HostRuntime) -> Result<(), Fail> {
+    let claim = Claim::Optimal(8);
+    expect_dropped(
+        &rt,
+        rt.alloc(),
+        SHARED_TASK,
+        SHARED,
+        claim,
+        &[19, 20, 23, 27],
+    )
 }
