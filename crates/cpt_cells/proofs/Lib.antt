@@ -9,4 +9,6 @@ pub mod Making
 pub mod Nths
 pub mod Ordered
 pub mod Rooms
+pub mod Rooting
 pub mod Rowing
+pub mod TaskLists

@@ -1,4 +1,5 @@
 pub mod Held
 pub mod Lists
 pub mod Marks
+pub mod Roots
 pub mod Shapes

@@ -1,7 +1,8 @@
-use Rattle.std.specs.Prelude.{◌≡◌, ℕ, ◌+◌, List, [], ◌∷◌, ◌++◌, length}
+use Rattle.std.specs.Prelude.{◌≡◌, ℕ, ◌+◌, ◌<◌, ◌≤◌, ◌^◌, List, [], ◌∷◌, ◌++◌, length}
+use Rattle.cpt_sheet.specs.declared.data.Kind.{Kind}
 use Rattle.cpt_sheet.specs.declared.data.Sheet.{Sheet}
-use Rattle.cpt_layout.specs.Places.{Place, Frame, IsThere}
-use Rattle.cpt_layout.specs.Numbers.{cell_of}
+use Rattle.cpt_layout.specs.Places.{Place, Frame, IsThere, extended, needs_by}
+use Rattle.cpt_layout.specs.Numbers.{cell_of, cells_in}
 
 -- a mark: the sheet when it was set, and how many cells were written since it and before the next mark
 pub record SheetMark : Type 0 where
@@ -50,3 +51,11 @@ pub record KeepsRoom (old new : CellsShape) : Type 0 where
   pub cells : new.cell_room ≡ old.cell_room
   pub tokens : new.token_room ≡ old.token_room
   pub needs : new.need_room ≡ old.need_room
+
+-- there is room for a token more of this kind, whose cells are so many
+pub record HasRoomFor (c : CellsShape) (k : Kind) (count : ℕ) : Type 0 where
+  pub size : count + cells_in c.frame ≡ cells_in (extended c.frame (k ∷ []))
+  pub fits : cells_in (extended c.frame (k ∷ [])) < 2 ^ 64
+  pub cell_room : count ≤ c.cell_room
+  pub token_room : 0 < c.token_room
+  pub need_room : length (needs_by c.frame k) ≤ c.need_room

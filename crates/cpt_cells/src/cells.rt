@@ -4,14 +4,14 @@ ghost use Rattle.std.specs.Prelude.{◌≡◌, ◌<◌, ◌≤◌, ◌+◌, ◌+
 ghost use Rattle.cpt_sheet.specs.Formed.{IsPlaced};
 ghost use Rattle.cpt_sheet.specs.Edits.{changed, with_posted};
 ghost use Rattle.cpt_sheet.specs.View.{span_of, kind_of, before, has, cands, token_at};
-ghost use Rattle.cpt_cells.specs.Shapes.{SheetMark, KeepsMarks, KeepsRoom, IsBackAt, IsCellOf, written_of};
+ghost use Rattle.cpt_cells.specs.Shapes.{SheetMark, HasRoomFor, KeepsMarks, KeepsRoom, IsBackAt, IsCellOf, written_of};
 ghost use Rattle.cpt_layout.specs.Sheets.{IsSmall};
 
 use crate::appending::append_all;
 use crate::spans::{number_of_span, span_of_number};
 use cpt_layout::{Layout, place_of};
-use cpt_sheet::{Cand, Change, Interval, Kind};
-use cpt_task::{Memory, Span, Steps};
+use cpt_sheet::{Cand, Change, Interval, Kind, needs_of};
+use cpt_task::{Memory, Span, Steps, Task};
 use cpt_trail::Trail;
 use std::marker::Model;
 use std::sync::ledger::Ledger;
@@ -41,7 +41,16 @@ impl Cells {
     ghost use Rattle.cpt_layout.specs.Places.{Place, IsThere, NoTwice, adders_at, all_cands, atom_at, extended, kept, needs_at, needs_by, order};
     ghost use Rattle.cpt_layout.specs.Numbers.{cell_of, cells_in};
     ghost use Rattle.cpt_block.specs.Blocks.{IsFrameOf, block, grown, list_in};
+    ghost use Rattle.cpt_cells.specs.Marks.{IsHeldBy, seen_by};
     ghost use Rattle.cpt_layout.specs.Puts.{Puts, lo_of, hi_of, IsSpanOf, IsCandCell, CanMake};
+
+    /// Cells of these parts.
+    pub(crate) fn of_parts(trail: Trail, layout: Layout, end: usize) -> Cells
+        requires { IsHeldBy trail layout.frame end }
+        ensures { result ≡ seen_by trail layout }
+    {
+        Cells { trail, layout, end }
+    }
 
     /// The interval of a token.
     pub fn span(&self, x: u32) -> Interval
@@ -219,6 +228,24 @@ impl Cells {
     {
         self.trail.reserve(cells, self.end, 1)?;
         self.layout.reserve(tokens, needs)
+    }
+
+    /// Room for a token more of this kind, whose cells are so many, for an entry of each cell that is there, and for one
+    /// mark.
+    pub fn room_for(&mut self, task: &Task, kind: Kind, count: usize) -> Result<(), Memory>
+        requires frame { IsFrameOf task.now self.old.frame }
+        requires count { count ≡ length (block task.now self.old.frame self.old.sheet kind 0 0) }
+        ensures frame { self.new.frame ≡ self.old.frame }
+        ensures sheet { self.new.sheet ≡ self.old.sheet }
+        ensures marks { self.new.marks ≡ self.old.marks }
+        ensures token { OnOk result (HasRoomFor self.new kind count) }
+        ensures room { OnOk result (0 < self.new.mark_room) }
+        ensures entries { OnOk result (self.new.cells ≤ self.new.entry_room) }
+    {
+        if count > usize::MAX - self.end {
+            return Err(Memory);
+        }
+        self.reserve(count, 1, needs_of(task, kind).len())
     }
 
     /// A new mark. The answer is how many stood before.

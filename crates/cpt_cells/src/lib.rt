@@ -6,6 +6,8 @@ mod cells;
 mod counting;
 mod dying;
 mod lists;
+mod root;
+mod rosters;
 mod rows;
 mod spans;
 mod stepping;

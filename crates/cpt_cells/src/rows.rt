@@ -19,7 +19,7 @@ fn bit(holds: bool) -> u64
     if holds { 1 } else { 0 }
 }
 
-fn is_adder(task: &Task, kind: Kind, p: u32) -> bool
+pub(crate) fn is_adder(task: &Task, kind: Kind, p: u32) -> bool
     ensures { result ≡ is_in p (adds_of task.now kind) }
 {
     adds_of(task, kind).contains(&p)
