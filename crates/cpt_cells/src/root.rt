@@ -138,7 +138,15 @@ fn two_tokens<L: Ledger>(
     let mut cells = bare(alloc, task, tables, bound)?;
     let first = gap(task, tables, Kind::Start, Kind::End);
     add(alloc, &mut cells, task, Kind::Start, 0, 0, steps)?;
-    add(alloc, &mut cells, task, Kind::End, number_of_span(first), bound, steps)?;
+    add(
+        alloc,
+        &mut cells,
+        task,
+        Kind::End,
+        number_of_span(first),
+        bound,
+        steps,
+    )?;
     Ok(cells)
 }
 
