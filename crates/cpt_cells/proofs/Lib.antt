@@ -1,4 +1,5 @@
 pub mod Backing
+pub mod Bringing
 pub mod Chains
 pub mod Counts
 pub mod Deaths

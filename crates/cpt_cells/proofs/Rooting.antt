@@ -1,7 +1,6 @@
 -- the root in cells
-use Rattle.std.proofs.Common.{◌≡◌, ◌==◌, ℕ, suc, zero, ◌+◌, ◌*◌, ◌≤◌, ◌<◌, ◌^◌, List, [], ◌∷◌, ◌++◌, Bool, true, false, if◌then◌else◌, length, get_or, refl, sym, ◌∙◌, ap, subst, arith, inl, inr}
+use Rattle.std.proofs.Common.{◌≡◌, ◌==◌, ℕ, suc, zero, ◌+◌, ◌*◌, ◌<◌, ◌^◌, List, [], ◌∷◌, ◌++◌, Bool, true, false, if◌then◌else◌, length, get_or, refl, sym, ◌∙◌, ap, subst, arith}
 use Rattle.std.specs.Prelude.{map, nat_le, ◌-◌, ◌&&◌}
-use Rattle.std.proofs.lemmas.Bool.{eq-eqb}
 use Rattle.std.proofs.lemmas.List.{length-append, get_or-append-add}
 use Rattle.std.proofs.Math.ListN.{get_or-append}
 use Rattle.cpt_task.specs.declared.span.Span.{Span}
@@ -14,11 +13,10 @@ use Rattle.cpt_tables.specs.Shapes.{set_span_of}
 use Rattle.cpt_tables.specs.Spans.{IsBelow}
 use Rattle.cpt_sheet.proofs.GapLemmas.{needs_within, set_below_more}
 use Rattle.cpt_sheet.specs.declared.data.Cand.{Cand}
-use Rattle.cpt_sheet.specs.declared.data.Cand.TheVariants.{Tok, Out}
+use Rattle.cpt_sheet.specs.declared.data.Cand.TheVariants.{Out}
 use Rattle.cpt_sheet.specs.declared.data.Interval.{Interval}
 use Rattle.cpt_sheet.specs.declared.data.Kind.TheVariants.{Start, End, Act}
 use Rattle.cpt_sheet.specs.declared.data.Need.{Need}
-use Rattle.cpt_sheet.specs.declared.data.Token.{Token}
 use Rattle.cpt_sheet.specs.declared.data.Sheet.{Sheet}
 use Rattle.cpt_sheet.specs.Live.{is_open}
 use Rattle.cpt_sheet.specs.View.{no_span, span_of}
@@ -26,13 +24,12 @@ use Rattle.cpt_sheet.specs.Gaps.{FitsTask, gap}
 use Rattle.cpt_calculus.specs.Decisions.{need_for, out_adders, token_adders}
 use Rattle.cpt_calculus.specs.Root.{bare_root, out_at_root, outs_at_root, start_token, window}
 use Rattle.cpt_trail.specs.Trails.{Mark, TrailShape}
-use Rattle.cpt_layout.specs.Places.{Frame, Place, out_hi, out_lo, table}
-use Rattle.cpt_layout.specs.Numbers.{cells_in}
+use Rattle.cpt_layout.specs.Places.{Frame, Place, table}
 use Rattle.cpt_layout.specs.Sheets.{IsSmall, number_at, number_of, out_from, seen, span_from}
 use Rattle.cpt_layout.proofs.Drops.{not_eq}
-use Rattle.cpt_layout.proofs.Lists.{if_false, if_true, length-table, table_same, table_snoc}
+use Rattle.cpt_layout.proofs.Lists.{if_false, length-table, table_same, table_snoc}
 use Rattle.cpt_layout.proofs.Views.{sheet_of_parts}
-use Rattle.cpt_block.specs.Blocks.{flat, grown, new_token}
+use Rattle.cpt_block.specs.Blocks.{flat, grown}
 use Rattle.cpt_block.proofs.Rows.{flat_length, get_flat}
 use Rattle.cpt_cells.specs.Marks.{AreOnce, HasRoom, IsChain, IsHeldBy}
 use Rattle.cpt_cells.specs.Roots.{bare_cells, frame_for, numbers_of, outs_alone, unordered_root}

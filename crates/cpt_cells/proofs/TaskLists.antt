@@ -1,6 +1,6 @@
 -- a layout's lists of a task
-use Rattle.std.proofs.Common.{◌≡◌, ℕ, suc, zero, ◌+◌, ◌≤◌, ◌<◌, List, [], ◌∷◌, ◌++◌, Bool, true, false, if◌then◌else◌, length, get_or, refl, sym, ◌∙◌, ap, subst, arith, inl, inr}
-use Rattle.std.proofs.lemmas.Bool.{cases_lt, true≢false}
+use Rattle.std.proofs.Common.{◌≡◌, ℕ, suc, zero, ◌+◌, ◌≤◌, ◌<◌, List, [], ◌∷◌, ◌++◌, Bool, length, get_or, refl, sym, ◌∙◌, ap, subst, arith, inl, inr}
+use Rattle.std.proofs.lemmas.Bool.{cases_lt}
 use Rattle.std.proofs.lemmas.List.Elements.{All-contains}
 use Rattle.std.proofs.Math.ListN.{get_or-eq_default}
 use Rattle.cpt_task.specs.declared.task.Action.{Action}
@@ -11,7 +11,7 @@ use Rattle.cpt_tables.proofs.PlanFacts.{contains_from_in}
 use Rattle.cpt_sheet.specs.declared.data.Kind.{Kind}
 use Rattle.cpt_sheet.specs.declared.data.Kind.TheVariants.{Start, End, Act}
 use Rattle.cpt_sheet.specs.Roles.{needs_of}
-use Rattle.cpt_layout.specs.Places.{Frame, In, NoTwice, adders_at, extended, needs_by, table}
+use Rattle.cpt_layout.specs.Places.{Frame, In, NoTwice, extended, needs_by, table}
 use Rattle.cpt_layout.proofs.Lists.{either, get_at, if_false, if_true, in_append, length-table, table_snoc}
 use Rattle.cpt_block.specs.Blocks.{IsFrameOf, action_adders}
 use Rattle.cpt_cells.specs.Roots.{adder_lists, frame_for, pre_lists}

@@ -1,3 +1,4 @@
+pub mod Decided
 pub mod Held
 pub mod Lists
 pub mod Marks

@@ -5,6 +5,7 @@ mod appending;
 mod cells;
 mod counting;
 mod dying;
+mod deciding;
 mod lists;
 mod root;
 mod rosters;
