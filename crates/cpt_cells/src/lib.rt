@@ -4,8 +4,8 @@
 mod appending;
 mod cells;
 mod counting;
-mod dying;
 mod deciding;
+mod dying;
 mod lists;
 mod root;
 mod rosters;
