@@ -1,4 +1,6 @@
 use Rattle.std.specs.Prelude.{◌≡◌, ℕ, ◌<◌, ◌≤◌, ◌^◌, ◌⊎◌, List, length, All, Contains, slice_get, Some}
+use Rattle.std.specs.List.Sorted.{IsStrictlyIncreasing}
+use Rattle.cpt_task.specs.declared.limits.TheConstants.{DURATION_LIMIT}
 use Rattle.cpt_task.specs.declared.task.Action.{Action}
 
 -- a task, as contracts see it
@@ -16,9 +18,9 @@ HasBadAtom n xs = (p : ℕ) × Contains xs p × (n ≤ p)
 abbrev pub ActionHasBadAtom : ℕ → Action → Type 0
 ActionHasBadAtom n a = HasBadAtom n a.pre ⊎ HasBadAtom n a.add ⊎ HasBadAtom n a.dele
 
--- a duration is from 1 to 100,000
+-- a duration is from 1 to the limit
 abbrev pub IsDuration : ℕ → Type 0
-IsDuration d = (1 ≤ d) × (d ≤ 100000)
+IsDuration d = (1 ≤ d) × (d ≤ DURATION_LIMIT)
 
 -- an action's atoms are below n
 pub record HasAtomsBelow (n : ℕ) (a : Action) : Type 0 where
@@ -34,6 +36,20 @@ pub record InBounds (t : TaskShape) : Type 0 where
   pub durations : All (λ a. IsDuration a.dur) t.actions
   pub init : All (λ p. p < length t.atoms) t.init
   pub goal : All (λ p. p < length t.atoms) t.goal
+
+-- an action's lists are sets: each is strictly increasing
+pub record HasSets (a : Action) : Type 0 where
+  pub pre : IsStrictlyIncreasing a.pre
+  pub add : IsStrictlyIncreasing a.add
+  pub dele : IsStrictlyIncreasing a.dele
+
+-- every list of atoms of a task is a set
+pub record IsOfSets (t : TaskShape) : Type 0 where
+  pub pre : All (λ a. IsStrictlyIncreasing a.pre) t.actions
+  pub add : All (λ a. IsStrictlyIncreasing a.add) t.actions
+  pub dele : All (λ a. IsStrictlyIncreasing a.dele) t.actions
+  pub init : IsStrictlyIncreasing t.init
+  pub goal : IsStrictlyIncreasing t.goal
 
 -- the first element of which P holds is that at k
 pub record IsFirstAt (P : Action → Type 0) (xs : List Action) (k : ℕ) : Type 0 where

@@ -3,6 +3,7 @@
 
 mod ids;
 mod laws;
+mod limits;
 mod list;
 mod memory;
 mod plan;
@@ -14,6 +15,9 @@ mod timeline;
 
 pub use ids::Ids;
 pub use laws::{no_plan_by_refutation, one_verdict, optimality_by_refutation};
+pub use limits::{
+    ACTION_LIMIT, ATOM_LIMIT, CERTIFICATE_LIMIT, CONDITION_LIMIT, DURATION_LIMIT, FILE_LIMIT,
+};
 pub use list::{List, Name};
 pub use memory::{Limit, Memory};
 pub use plan::{Occ, Verdict, interfere, judge};

@@ -3,9 +3,10 @@
 ghost use Rattle.std.specs.Prelude.{◌≡◌, ◌↔◌, ◌<◌, ◌≤◌, ◌^◌, IsTrue, MatchBool, MatchOption, length, vec_len, All};
 ghost use Rattle.std.specs.List.Sorted.{IsStrictlyIncreasing};
 ghost use Rattle.cpt_task.specs.Building.{Builds, IsFault, made_of};
-ghost use Rattle.cpt_task.specs.Shape.{InBounds, HasBadAtom, ActionHasBadAtom, HasAtomsBelow, IsDuration, IsFirstAt};
+ghost use Rattle.cpt_task.specs.Shape.{InBounds, IsOfSets, HasSets, HasBadAtom, ActionHasBadAtom, HasAtomsBelow, IsDuration, IsFirstAt};
 
 use crate::ids::Ids;
+use crate::limits::DURATION_LIMIT;
 use crate::list::{List, Name};
 use std::marker::Model;
 
@@ -19,7 +20,7 @@ pub struct Action {
     pub dele: Ids,
 }
 
-/// A temporal STRIPS task whose numbers are in range.
+/// A temporal STRIPS task whose numbers are in range and whose lists are sets.
 #[derive(Debug, Drop)]
 pub struct Task {
     atoms: List<Name>,
@@ -29,13 +30,13 @@ pub struct Task {
 }
 
 impl Model for Task {
-    ghost use Rattle.cpt_task.specs.Shape.{TaskShape, InBounds};
+    ghost use Rattle.cpt_task.specs.Shape.{TaskShape, InBounds, IsOfSets};
 
     ghost Value = { TaskShape };
 
     ghost view = { λ t. record { atoms = t.atoms; actions = t.actions; init = t.init; goal = t.goal } };
 
-    ghost invariant = { λ t. InBounds (record { atoms = t.atoms; actions = t.actions; init = t.init; goal = t.goal }) };
+    ghost invariant = { λ t. InBounds (record { atoms = t.atoms; actions = t.actions; init = t.init; goal = t.goal }) × IsOfSets (record { atoms = t.atoms; actions = t.actions; init = t.init; goal = t.goal }) };
 }
 
 /// Why parts make no task.
@@ -83,6 +84,7 @@ impl Task {
     pub fn actions(&self) -> &[Action]
         ensures value { result.now ≡ self.now.actions }
         ensures bounds { InBounds self.now }
+        ensures sets { IsOfSets self.now }
     {
         self.actions.as_slice()
     }
@@ -106,18 +108,19 @@ impl Task {
 
 fn has_bad_atom(count: usize, xs: &Ids) -> bool
     ensures cases { MatchBool result (HasBadAtom count xs.now) (All (λ p. p < count) xs.now) }
+    ensures increasing { IsStrictlyIncreasing xs.now }
 {
     xs.as_slice().iter().any(|p| *p as usize >= count)
 }
 
 fn action_has_bad_atom(count: usize, a: &Action) -> bool
-    ensures { MatchBool result (ActionHasBadAtom count a.now) (HasAtomsBelow count a.now) }
+    ensures { MatchBool result (ActionHasBadAtom count a.now) (HasAtomsBelow count a.now × HasSets a.now) }
 {
     has_bad_atom(count, &a.pre) || has_bad_atom(count, &a.add) || has_bad_atom(count, &a.dele)
 }
 
 fn first_bad_action(count: usize, actions: &[Action]) -> Option<usize>
-    ensures { MatchOption result (All (HasAtomsBelow count) actions.now) (IsFirstAt (ActionHasBadAtom count) actions.now) }
+    ensures { MatchOption result (All (λ a. HasAtomsBelow count a × HasSets a) actions.now) (IsFirstAt (ActionHasBadAtom count) actions.now) }
 {
     actions.iter().position(|a| action_has_bad_atom(count, a))
 }
@@ -125,13 +128,15 @@ fn first_bad_action(count: usize, actions: &[Action]) -> Option<usize>
 fn first_bad_duration(actions: &[Action]) -> Option<usize>
     ensures { MatchOption result (All (λ a. IsDuration a.dur) actions.now) (IsFirstAt (λ a. IsDuration a.dur → ⊥) actions.now) }
 {
-    actions.iter().position(|a| a.dur < 1 || a.dur > 100_000)
+    actions
+        .iter()
+        .position(|a| a.dur < 1 || a.dur > DURATION_LIMIT)
 }
 
 fn first_fault(atoms: &[Name], actions: &[Action], init: &Ids, goal: &Ids) -> Option<BuildError>
     requires few_atoms { length atoms.now < 2 ^ 31 }
     requires few_actions { length actions.now < 2 ^ 31 }
-    ensures { MatchOption result (InBounds (made_of atoms.now actions.now init.now goal.now)) (IsFault (made_of atoms.now actions.now init.now goal.now)) }
+    ensures { MatchOption result (InBounds (made_of atoms.now actions.now init.now goal.now) × IsOfSets (made_of atoms.now actions.now init.now goal.now)) (IsFault (made_of atoms.now actions.now init.now goal.now)) }
 {
     let count = atoms.len();
     if let Some(place) = first_bad_action(count, actions) {
