@@ -4,7 +4,6 @@ pub mod Behind
 pub mod Below
 pub mod Brings
 pub mod Confluence
-pub mod Inserts
 pub mod Keeps
 pub mod Members
 pub mod Monotone

@@ -1,13 +1,13 @@
 -- laws of parts of candidate lists
-use Rattle.std.proofs.Common.{◌≡◌, ◌≢◌, ℕ, ◌≤◌, ◌<◌, List, [], ◌∷◌, Bool, true, false, ◌||◌, if◌then◌else◌, suc, zero, slice_get, length, refl, sym, ◌∙◌, ap, subst, arith, inl, inr}
+use Rattle.std.proofs.Common.{◌≡◌, ◌≢◌, ℕ, ◌≤◌, ◌<◌, List, [], ◌∷◌, Bool, true, false, ◌||◌, if◌then◌else◌, length, refl, sym, ◌∙◌, ap, subst, arith, inl, inr}
 use Rattle.std.proofs.lemmas.Bool.{or_cases, or_left, or_right, or_parts, eqb-true, eq-eqb}
 use Rattle.cpt_sheet.specs.declared.data.Cand.{Cand}
 use Rattle.cpt_sheet.specs.declared.data.Cand.TheVariants.{Tok, Out}
-use Rattle.std.specs.Prelude.{IsSomeAnd, remove}
 use Rattle.cpt_sheet.specs.View.{has, same}
 use Rattle.cpt_sheet.specs.Edits.{without}
 use Rattle.cpt_sheet.specs.Below.{Part}
 use Rattle.cpt_sheet.specs.Below.Part.{done, skip, keep}
+pub use Rattle.cpt_edits.proofs.Firsts.{removed_at, none_there}
 
 pub same_is : (c d : Cand) → same c d ≡ true → c ≡ d
 same_is (Tok x) (Tok y) h = ap Tok (eqb-true x y h)
@@ -77,20 +77,6 @@ without_shorter c (x ∷ xs) h = go (same x c) h (λ k. without_shorter c xs k)
     go : (t : Bool) → (t || has c xs) ≡ true → (has c xs ≡ true → length (without c xs) < length xs) → length (if t then xs else x ∷ without c xs) < length (x ∷ xs)
     go true k ih = omega arith
     go false k ih = let e = ih k in omega arith
-
--- the first place of a candidate
-pub removed_at : (c : Cand) (xs : List Cand) (i : ℕ) → i < length xs → ((k : ℕ) → k < i → IsSomeAnd (slice_get xs k) (λ d. false ≡ same d c)) →
-    IsSomeAnd (slice_get xs i) (λ d. true ≡ same d c) → remove xs i ≡ without c xs
-removed_at c [] i l h e = absurd (omega arith)
-removed_at c (x ∷ xs) zero l h e = subst (λ t. xs ≡ (if t then xs else x ∷ without c xs)) e refl
-removed_at c (x ∷ xs) (suc i) l h e =
-    subst (λ t. remove (x ∷ xs) (suc i) ≡ (if t then xs else x ∷ without c xs)) (h 0 (omega arith))
-    (ap (λ z. x ∷ z) (removed_at c xs i (omega arith) (λ k j. h (suc k) (omega arith)) e))
-
-pub none_there : (c : Cand) (xs : List Cand) → ((k : ℕ) → k < length xs → IsSomeAnd (slice_get xs k) (λ d. false ≡ same d c)) → xs ≡ without c xs
-none_there c [] h = refl
-none_there c (x ∷ xs) h =
-    subst (λ t. (x ∷ xs) ≡ (if t then xs else x ∷ without c xs)) (h 0 (omega arith)) (ap (λ z. x ∷ z) (none_there c xs (λ k j. h (suc k) (omega arith))))
 
 -- another candidate stays
 pub has_without : (c d : Cand) (l : List Cand) → has d l ≡ true → (d ≡ c → ⊥) → has d (without c l) ≡ true

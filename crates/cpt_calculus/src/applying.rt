@@ -8,8 +8,7 @@ ghost use Rattle.cpt_calculus.specs.Decisions.{Fits, applied, brought, behind_to
 ghost use Rattle.cpt_calculus.specs.Places.{IsPlaceFor, is_outside};
 
 use crate::build::needs_for;
-use crate::copies::{copy_cands, copy_orders};
-use crate::narrowing::{is_for, post};
+use cpt_edits::{copy_cands, copy_orders, is_for, post};
 use cpt_sheet::{Cand, Decision, Kind, Need, Sheet, Token, is_listed, needs_of, span};
 use cpt_task::{List, Memory, Task};
 use std::alloc::Global;

@@ -3,7 +3,6 @@
 
 mod applying;
 mod build;
-mod copies;
 mod decisions;
 mod flaws;
 mod laws;
@@ -12,7 +11,7 @@ mod rooting;
 mod rules;
 
 pub use applying::apply;
-pub use copies::copy_sheet;
+pub use cpt_edits::copy_sheet;
 pub use cpt_sheet::{
     Cand, Change, Decision, Flaw, Interval, Kind, Need, NodeLine, Sheet, Step, Token, Tree, is_dead,
 };

@@ -2,7 +2,7 @@ use Rattle.std.proofs.Common.{arith, sym, subst, ap, refl, ◌<◌, ◌≤◌, L
 use Rattle.std.proofs.lemmas.Option.{get_or_from_slice_get}
 use Rattle.cpt_sheet.specs.declared.data.Need.{Need}
 use Rattle.cpt_calculus.specs.Places.{IsPlaceFor}
-use Rattle.cpt_calculus.proofs.Takes.{revised_at, not_there}
+use Rattle.cpt_edits.proofs.Takes.{revised_at, not_there}
 use Rattle.cpt_calculus.proofs.applying.put_list.Goals as goal
 
 pub returns-then-place-as_slice : goal.returns-then-place-as_slice

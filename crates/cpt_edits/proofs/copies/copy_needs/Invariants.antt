@@ -1,5 +1,5 @@
 use Rattle.std.proofs.Common.{◌≡◌, take}
-use Rattle.cpt_calculus.proofs.copies.copy_needs.Given as goal
+use Rattle.cpt_edits.proofs.copies.copy_needs.Given as goal
 
 abbrev pub invariant-loop-need : goal.invariant-loop-need
 invariant-loop-need l = l.copies.items ≡ take l.need-index l.needs

@@ -1,6 +1,6 @@
 use Rattle.std.proofs.Common.{rules, arith, sym}
-use Rattle.cpt_calculus.proofs.Inserts.{inserted_at, inserted_end}
-use Rattle.cpt_calculus.proofs.narrowing.place_of.Goals as goal
+use Rattle.cpt_edits.proofs.Inserts.{inserted_at, inserted_end}
+use Rattle.cpt_edits.proofs.changing.place_of.Goals as goal
 
 pub returns-then-is_before-clause-place : goal.returns-then-is_before-clause-place
 returns-then-is_before-clause-place c = inserted_at c.args.first c.args.second c.args.orders.now c.loop-i.i (search rules) c.loop-i.invariant (sym c.if-is_before.ensures)

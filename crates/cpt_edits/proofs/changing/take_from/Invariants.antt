@@ -1,6 +1,6 @@
 use Rattle.std.proofs.Common.{◌≡◌, ℕ, ◌<◌, ◌==◌, false, slice_get, unwrap_or}
 use Rattle.cpt_sheet.specs.View.{no_need}
-use Rattle.cpt_calculus.proofs.narrowing.take_from.Given as goal
+use Rattle.cpt_edits.proofs.changing.take_from.Given as goal
 
 abbrev pub invariant-loop-i : goal.invariant-loop-i
 invariant-loop-i l = record {

@@ -2,9 +2,9 @@ use Rattle.std.proofs.Common.{arith, sym, ◌∙◌, ap, subst, ◌≡◌, ◌==
 use Rattle.std.proofs.lemmas.Option.{get_or_from_slice_get}
 use Rattle.cpt_sheet.specs.declared.data.Need.{Need}
 use Rattle.cpt_sheet.specs.View.{no_need}
-use Rattle.cpt_calculus.proofs.Takes.{revised_at, not_there}
+use Rattle.cpt_edits.proofs.Takes.{revised_at, not_there}
 use Rattle.cpt_sheet.specs.Edits.{without, revised}
-use Rattle.cpt_calculus.proofs.narrowing.take_from.Goals as goal
+use Rattle.cpt_edits.proofs.changing.take_from.Goals as goal
 
 pub returns-then-is_for : goal.returns-then-is_for
 returns-then-is_for c =

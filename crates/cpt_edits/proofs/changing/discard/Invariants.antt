@@ -1,7 +1,7 @@
 use Rattle.std.proofs.Common.{◌≡◌, ℕ, ◌<◌, false, slice_get}
 use Rattle.std.specs.Prelude.{IsSomeAnd}
 use Rattle.cpt_sheet.specs.View.{same}
-use Rattle.cpt_calculus.proofs.narrowing.discard.Given as goal
+use Rattle.cpt_edits.proofs.changing.discard.Given as goal
 
 abbrev pub invariant-loop-i : goal.invariant-loop-i
 invariant-loop-i l = record {

@@ -3,8 +3,8 @@ use Rattle.std.specs.Prelude.{IsSomeAnd}
 use Rattle.cpt_sheet.specs.declared.data.Cand.{Cand}
 use Rattle.cpt_sheet.specs.View.{same}
 use Rattle.cpt_sheet.specs.Edits.{without}
-use Rattle.cpt_calculus.proofs.Parts.{removed_at, none_there}
-use Rattle.cpt_calculus.proofs.narrowing.discard.Goals as goal
+use Rattle.cpt_edits.proofs.Firsts.{removed_at, none_there}
+use Rattle.cpt_edits.proofs.changing.discard.Goals as goal
 
 pub returns : goal.returns
 returns c = none_there c.args.cand c.loop-i.list (λ k h. c.loop-i.invariant.none k (omega (arith, ap length c.loop-i.invariant.kept, ap length c.as_slice-i-end.ensures))) ∙ ap (λ z. without c.args.cand z) c.loop-i.invariant.kept

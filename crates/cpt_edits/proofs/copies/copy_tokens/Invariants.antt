@@ -1,5 +1,5 @@
 use Rattle.std.proofs.Common.{◌≡◌, take}
-use Rattle.cpt_calculus.proofs.copies.copy_tokens.Given as goal
+use Rattle.cpt_edits.proofs.copies.copy_tokens.Given as goal
 
 abbrev pub invariant-loop-token : goal.invariant-loop-token
 invariant-loop-token l = l.copies.items ≡ take l.token-index l.tokens
