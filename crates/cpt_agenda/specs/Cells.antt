@@ -6,6 +6,7 @@ use Rattle.cpt_agenda.specs.declared.agenda.Agenda.TheInside.{Inside}
 use Rattle.cpt_agenda.specs.Agendas.{AgendaShape}
 use Rattle.cpt_agenda.specs.Marks.{mark_of, free_in, IsDistinct}
 
+-- what is seen of an agenda
 abbrev pub shape_of : Inside → AgendaShape
 shape_of a = record { waiting = a.queue.items; tokens = length a.tokens.items; acts = length a.acts.items; room = deque_capacity a.queue }
 

@@ -16,6 +16,7 @@ pub record Answer : Type 0 where
   pub status : ℕ
   pub text : List ℕ
 
+-- a status and a text
 abbrev pub answer : ℕ → List ℕ → Answer
 answer status text = record { status = status; text = text }
 
@@ -68,9 +69,11 @@ cause_answer (Passed limit) = answer 6 (fault_line (codes "limit " ++ limit_name
 abbrev pub usage_answer : Answer
 usage_answer = answer 5 usage_line
 
+-- the answer where a file is not read
 abbrev pub read_answer : Answer
 read_answer = answer 7 read_line
 
+-- the answer where memory ran out
 abbrev pub memory_answer : Answer
 memory_answer = answer 9 memory_line
 

@@ -3,6 +3,7 @@ use Rattle.cpt_answer.specs.declared.ending.Ending.{Ending}
 use Rattle.cpt_answer.specs.declared.ending.Ending.TheVariants.{Because, Read, Memory}
 
 infixl 10 ◌>>=◌
+-- one stage after another, up to the first ending
 abbrev pub ◌>>=◌ : {A B : Type 0} → Result A Ending → (A → Result B Ending) → Result B Ending
 (Ok x) >>= f = f x
 (Err e) >>= f = Err e

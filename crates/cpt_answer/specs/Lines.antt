@@ -44,12 +44,15 @@ invalid_line cause = line_of (codes "invalid: " ++ cause)
 abbrev pub of_line : ℕ → List ℕ → List ℕ
 of_line line cause = codes "line " ++ decimal line ++ cause
 
+-- the line where two lines of a plan overlap
 abbrev pub overlap_line : ℕ → ℕ → List ℕ
 overlap_line first second = invalid_line (codes "lines " ++ decimal first ++ codes " and " ++ decimal second ++ codes " overlap")
 
+-- the line where the action of a line lacks an atom at a moment
 abbrev pub lacks_line : ℕ → List ℕ → ℕ → List ℕ
 lacks_line line atom time = invalid_line (of_line line (codes " lacks " ++ atom ++ codes " at " ++ decimal time))
 
+-- the line where an atom of the goal is missing
 abbrev pub missing_line : List ℕ → List ℕ
 missing_line atom = invalid_line (codes "goal " ++ atom ++ codes " is missing")
 

@@ -15,6 +15,7 @@ pub record Call : Type 0 where
   pub new : Output
   pub status : ℕ
 
+-- a call: whether its library is steady, its counts of failed calls, its output before and after, its status
 abbrev pub call : Bool → (before now : ℕ) → (old new : Output) → ℕ → Call
 call steady before now old new status = record { steady = steady; before = before; now = now; old = old; new = new; status = status }
 

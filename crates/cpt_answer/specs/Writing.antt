@@ -10,6 +10,7 @@ pub record Output : Type 0 where
   pub faults : ℕ
   pub written : Option (List ℕ)
 
+-- an output: its count of failed calls, and what is written where that is told
 abbrev pub output : ℕ → Option (List ℕ) → Output
 output faults written = record { faults = faults; written = written }
 

@@ -9,12 +9,15 @@ use Rattle.cpt_check_files.specs.Rulings.{accepted_line}
 abbrev pub size_line : ℕ → List ℕ
 size_line n = line_of (codes "bench " ++ decimal n)
 
+-- the line of the number of atoms
 abbrev pub atoms_line : ℕ → List ℕ
 atoms_line count = line_of (codes "atoms " ++ decimal count)
 
+-- the line of the number of actions
 abbrev pub actions_line : ℕ → List ℕ
 actions_line count = line_of (codes "actions " ++ decimal count)
 
+-- the line of the least makespan
 abbrev pub least_line : ℕ → List ℕ
 least_line m = line_of (codes "makespan " ++ decimal m)
 

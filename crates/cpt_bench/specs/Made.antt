@@ -11,6 +11,7 @@ use Rattle.cpt_options.specs.Options.{budget_of, no_options}
 abbrev pub domain_name : List ℕ
 domain_name = codes "domain"
 
+-- the name of the made problem's file
 abbrev pub problem_name : List ℕ
 problem_name = codes "problem"
 

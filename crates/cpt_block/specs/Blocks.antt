@@ -47,9 +47,11 @@ older_row s k x = table (λ j. bit (is_beside k (list_in s x j))) 0 (length (tok
 abbrev pub own_row : TaskShape → Sheet → ℕ → List ℕ → ℕ → List ℕ
 own_row t s n adders p = 0 ∷ (0 ∷ (table (λ y. bit (is_in p (adds_of t (kind_of s (Tok y))))) 0 n ++ map (λ a. bit (is_open (span_of s (Out a)))) adders))
 
+-- the j-th precondition of a kind
 abbrev pub nth_need : Frame → Kind → ℕ → ℕ
 nth_need f k j = slice_index_or (needs_by f k) j 0
 
+-- the cells of the j-th candidate list of a token that is added
 abbrev pub own_row_at : TaskShape → Frame → Sheet → Kind → ℕ → List ℕ
 own_row_at t f s k j = own_row t s (length f.kinds) (adders_at f (nth_need f k j)) (nth_need f k j)
 

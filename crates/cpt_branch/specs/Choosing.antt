@@ -24,6 +24,7 @@ IsEarlier s (Some f) (Some g) r = ((r ≡ Some f) × (IsChosenBefore s g f → �
 abbrev pub AreAmong : {A : Type 0} → (A → Flaws) → List A → Flaws
 AreAmong {A} Q xs f = (a : A) × Contains xs a × Q a f
 
+-- the flaws of a family with numbers below n
 abbrev pub AreBelow : (ℕ → Flaws) → ℕ → Flaws
 AreBelow Q n f = (x : ℕ) × (x < n) × Q x f
 
@@ -41,6 +42,7 @@ IsAbout x p (Clash y z) = ⊥
 abbrev pub IsOfList : TaskShape → Sheet → ℕ → ℕ → Flaws
 IsOfList t s x p f = IsAbout x p f × IsFlaw t s f
 
+-- the flaws in the lists of a token
 abbrev pub IsOfToken : TaskShape → Sheet → ℕ → Flaws
 IsOfToken t s x f = (p : ℕ) × IsOfList t s x p f
 
@@ -48,6 +50,7 @@ IsOfToken t s x f = (p : ℕ) × IsOfList t s x p f
 abbrev pub IsClashWith : TaskShape → Sheet → ℕ → ℕ → Flaws
 IsClashWith t s x y f = (f ≡ Clash x y) × IsClash t s x y
 
+-- the clashes of a token
 abbrev pub IsClashOf : TaskShape → Sheet → ℕ → Flaws
 IsClashOf t s x f = (y : ℕ) × IsClashWith t s x y f
 

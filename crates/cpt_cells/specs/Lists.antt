@@ -20,6 +20,7 @@ pub record IsSameBut (s t : Sheet) (x p : ℕ) : Type 0 where
 abbrev pub tokens_in : List Cand → ℕ → List Cand
 tokens_in cs n = kept (λ c. has c cs) (table Tok 0 n)
 
+-- the outside actions of these that stand in a list
 abbrev pub outs_in : List Cand → List ℕ → List Cand
 outs_in cs bs = kept (λ c. has c cs) (map Out bs)
 

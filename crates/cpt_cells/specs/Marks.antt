@@ -25,6 +25,7 @@ IsChain s low (m ∷ ms) n = (low ≤ count_at s m.cells) × (length m.cells ≡
 abbrev pub IsOnce : Mark → Type 0
 IsOnce m = IsDistinct nat_eq m.kept × ((q : ℕ) → is_in q m.kept ≡ true → q < length m.cells)
 
+-- each of the marks has each cell once
 abbrev pub AreOnce : List Mark → Type 0
 AreOnce [] = Unit {0}
 AreOnce (m ∷ ms) = IsOnce m × AreOnce ms

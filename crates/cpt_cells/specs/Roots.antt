@@ -13,6 +13,7 @@ use Rattle.cpt_block.specs.Blocks.{action_adders, flat}
 abbrev pub pre_lists : TaskShape → List (List ℕ)
 pre_lists t = table (λ a. (nth_action t a).pre) 0 (length t.actions)
 
+-- for each atom the actions that add it
 abbrev pub adder_lists : TaskShape → List (List ℕ)
 adder_lists t = table (λ p. action_adders t p (length t.actions)) 0 (length t.atoms)
 

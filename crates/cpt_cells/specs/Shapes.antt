@@ -11,6 +11,7 @@ pub record SheetMark : Type 0 where
 
 -- what is seen of cells that hold a sheet: what the cells do not say, the sheet, its marks from the oldest to the newest,
 
+-- what is seen of cells: frame, sheet, marks, how many cells, and spare room for cells, entries and marks
 pub record CellsShape : Type 0 where
   pub frame : Frame
   pub sheet : Sheet

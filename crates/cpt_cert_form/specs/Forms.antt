@@ -26,6 +26,7 @@ abbrev pub span_word : Span → List ℕ
 span_word (At n) = decimal n
 span_word Never = codes "never"
 
+-- the word of a version
 abbrev pub version_word : Version → List ℕ
 version_word One = codes "1"
 version_word Two = codes "2"
@@ -39,17 +40,20 @@ cand_word (Out n) = codes "o" ++ decimal n
 abbrev pub run_word : Run → List ℕ
 run_word run = if run.count == 1 then span_word run.value else span_word run.value ++ codes "*" ++ decimal run.count
 
+-- the words of a claim, behind the word `claim`
 abbrev pub claim_words : Claim → List (List ℕ)
 claim_words (claims.Optimal m) = codes "optimal" ∷ decimal m ∷ []
 claim_words (claims.NoneUpTo m) = codes "none-up-to" ∷ decimal m ∷ []
 claim_words claims.Never = codes "none" ∷ []
 claim_words (claims.Spent refuted nodes) = codes "spent" ∷ decimal refuted ∷ decimal nodes ∷ []
 
+-- the words of a decision: its kind, then its numbers
 abbrev pub decision_words : Decision → List (List ℕ)
 decision_words (Join x p y) = codes "join" ∷ decimal x ∷ decimal p ∷ decimal y ∷ []
 decision_words (Bring x p a) = codes "bring" ∷ decimal x ∷ decimal p ∷ decimal a ∷ []
 decision_words (Before x y) = codes "before" ∷ decimal x ∷ decimal y ∷ []
 
+-- the words of a flaw: its kind, then its numbers
 abbrev pub flaw_words : Flaw → List (List ℕ)
 flaw_words (Threat x p d) = codes "threat" ∷ decimal x ∷ decimal p ∷ decimal d ∷ []
 flaw_words (OpenNeed x p) = codes "open" ∷ decimal x ∷ decimal p ∷ []
@@ -74,6 +78,7 @@ step_words (R12After x a v) = codes "12" ∷ decimal x ∷ decimal a ∷ codes "
 step_words (R12Ahead x a v) = codes "12" ∷ decimal x ∷ decimal a ∷ codes "ahead" ∷ span_word v ∷ []
 step_words (R13 x p c q) = codes "13" ∷ decimal x ∷ decimal p ∷ cand_word c ∷ decimal q ∷ []
 
+-- the words of a line of a tree
 abbrev pub node_words : NodeLine → List (List ℕ)
 node_words (Child d) = codes "child" ∷ decision_words d
 node_words (Narrow step) = step_words step
@@ -81,6 +86,7 @@ node_words Close = codes "close" ∷ []
 node_words (Branch flaw) = codes "branch" ∷ flaw_words flaw
 node_words OpenNode = codes "open" ∷ []
 
+-- the words of a line
 abbrev pub line_words : CertLine → List (List ℕ)
 line_words (lines.First v) = codes "cpt" ∷ version_word v ∷ []
 line_words (lines.Claimed c) = codes "claim" ∷ claim_words c
@@ -110,10 +116,12 @@ spelled line = joined (line_words line)
 abbrev pub IsShort : ℕ → Type 0
 IsShort n = n < 10 ^ 16
 
+-- a moment of at most 16 digits, or never
 abbrev pub IsShortSpan : Span → Type 0
 IsShortSpan (At n) = IsShort n
 IsShortSpan Never = Unit {0}
 
+-- a candidate whose number has at most 16 digits
 abbrev pub IsShortCand : Cand → Type 0
 IsShortCand (Tok n) = IsShort n
 IsShortCand (Out n) = IsShort n
@@ -130,6 +138,7 @@ abbrev pub IsRowSpan : Span → Type 0
 IsRowSpan (At n) = n < 10 ^ 15
 IsRowSpan Never = Unit {0}
 
+-- a value of a row, from 1 to 2,048 times
 pub record IsRun (run : Run) : Type 0 where
   pub value : IsRowSpan run.value
   pub some : 1 ≤ run.count
@@ -150,16 +159,19 @@ pub record IsRow (runs : List Run) : Type 0 where
   pub all : All IsRun runs
   pub form : AreAlone runs ⊎ AreRuns runs
 
+-- each number of the decision has at most 16 digits
 abbrev pub IsShortDecision : Decision → Type 0
 IsShortDecision (Join x p y) = IsShort x × IsShort p × IsShort y
 IsShortDecision (Bring x p a) = IsShort x × IsShort p × IsShort a
 IsShortDecision (Before x y) = IsShort x × IsShort y
 
+-- each number of the flaw has at most 16 digits
 abbrev pub IsShortFlaw : Flaw → Type 0
 IsShortFlaw (Threat x p d) = IsShort x × IsShort p × IsShort d
 IsShortFlaw (OpenNeed x p) = IsShort x × IsShort p
 IsShortFlaw (Clash x y) = IsShort x × IsShort y
 
+-- each number of the step has at most 16 digits
 abbrev pub IsShortStep : Step → Type 0
 IsShortStep (R1 x y v) = IsShort x × IsShort y × IsShortSpan v
 IsShortStep (R2 x y v) = IsShort x × IsShort y × IsShortSpan v
@@ -178,6 +190,7 @@ IsShortStep (R12After x a v) = IsShort x × IsShort a × IsShortSpan v
 IsShortStep (R12Ahead x a v) = IsShort x × IsShort a × IsShortSpan v
 IsShortStep (R13 x p c q) = IsShort x × IsShort p × IsShortCand c × IsShort q
 
+-- each number of the line of a tree has at most 16 digits
 abbrev pub IsShortNode : NodeLine → Type 0
 IsShortNode (Child d) = IsShortDecision d
 IsShortNode (Narrow step) = IsShortStep step
@@ -206,20 +219,24 @@ IsWritten lines.Strange = ⊥
 abbrev pub capped : ℕ → ℕ
 capped n = min n 4294967295
 
+-- the candidate, its number capped
 abbrev pub capped_cand : Cand → Cand
 capped_cand (Tok n) = Tok (capped n)
 capped_cand (Out n) = Out (capped n)
 
+-- the decision, its numbers capped
 abbrev pub capped_decision : Decision → Decision
 capped_decision (Join x p y) = Join (capped x) (capped p) (capped y)
 capped_decision (Bring x p a) = Bring (capped x) (capped p) (capped a)
 capped_decision (Before x y) = Before (capped x) (capped y)
 
+-- the flaw, its numbers capped
 abbrev pub capped_flaw : Flaw → Flaw
 capped_flaw (Threat x p d) = Threat (capped x) (capped p) (capped d)
 capped_flaw (OpenNeed x p) = OpenNeed (capped x) (capped p)
 capped_flaw (Clash x y) = Clash (capped x) (capped y)
 
+-- the step, its numbers of tokens, atoms and actions capped; moments stay
 abbrev pub capped_step : Step → Step
 capped_step (R1 x y v) = R1 (capped x) (capped y) v
 capped_step (R2 x y v) = R2 (capped x) (capped y) v
@@ -238,6 +255,7 @@ capped_step (R12After x a v) = R12After (capped x) (capped a) v
 capped_step (R12Ahead x a v) = R12Ahead (capped x) (capped a) v
 capped_step (R13 x p c q) = R13 (capped x) (capped p) (capped_cand c) (capped q)
 
+-- the line of a tree, its numbers of tokens, atoms and actions capped
 abbrev pub capped_node : NodeLine → NodeLine
 capped_node (Child d) = Child (capped_decision d)
 capped_node (Narrow step) = Narrow (capped_step step)
@@ -245,6 +263,7 @@ capped_node Close = Close
 capped_node (Branch flaw) = Branch (capped_flaw flaw)
 capped_node OpenNode = OpenNode
 
+-- the line, where it is one of a tree with its numbers of tokens, atoms and actions capped
 abbrev pub capped_line : CertLine → CertLine
 capped_line (lines.First v) = lines.First v
 capped_line (lines.Claimed c) = lines.Claimed c

@@ -58,21 +58,27 @@ pair_row h p = map (λ q. pair_at h p q) (range_with_len p (h.atoms - p))
 abbrev pub dist_row : DistShape → ℕ → List Span
 dist_row d a = map (λ p. dist_at d a p) (range_with_len 0 d.atoms)
 
+-- the head of a plan with its length, and a line an occurrence
 abbrev pub plan_lines : List Occ → List CertLine
 plan_lines plan = lines.Plan (length plan) ∷ map (λ (o : Occ). lines.Item o.start o.act) plan
 
+-- the head of a pair table, and a row for each atom
 abbrev pub pair_lines : Version → PairShape → List CertLine
 pair_lines v h = lines.Pairs ∷ map (λ p. lines.PairRow (row_runs v (pair_row h p))) (range_with_len 0 h.atoms)
 
+-- the head of a distance table, and a row for each action
 abbrev pub dist_lines : Version → DistShape → List CertLine
 dist_lines v d = lines.Dists ∷ map (λ a. lines.DistRow (row_runs v (dist_row d a))) (range_with_len 0 d.actions)
 
+-- the two tables
 abbrev pub table_lines : Version → Tables → List CertLine
 table_lines v b = pair_lines v b.pairs ++ dist_lines v b.dists
 
+-- the head of a closed tree with its bound, and its lines
 abbrev pub tree_lines : ℕ → List NodeLine → List CertLine
 tree_lines bound tree = lines.Tree bound ∷ map (λ l. lines.Node l) tree
 
+-- the head of a tree with open nodes, with its bound, and its lines
 abbrev pub open_lines : ℕ → List NodeLine → List CertLine
 open_lines bound tree = lines.OpenTree bound ∷ map (λ l. lines.Node l) tree
 
@@ -81,6 +87,7 @@ abbrev pub optimal_sections : Version → ℕ → Parts → List CertLine
 optimal_sections v zero c = plan_lines c.plan
 optimal_sections v (suc m) c = plan_lines c.plan ++ (table_lines v c.tables ++ tree_lines m c.tree)
 
+-- what stands behind the claim and the sizes, by the claim: plan, tables, trees
 abbrev pub sections : Version → Claim → Parts → List CertLine
 sections v (claims.Optimal m) c = optimal_sections v m c
 sections v (claims.NoneUpTo m) c = table_lines v c.tables ++ tree_lines m c.tree

@@ -63,9 +63,11 @@ number_to most word = do
 unfoldable pub id_in : List ℕ → Option ℕ
 id_in word = option_map capped (number_in word)
 
+-- a moment: a number, or `never`
 unfoldable pub span_in : List ℕ → Option Span
 span_in word = if bytes_eq word (codes "never") then Some Never else option_map At (number_in word)
 
+-- a candidate: `t` and the number of a token, or `o` and that of an action
 unfoldable pub cand_in : List ℕ → Option Cand
 cand_in [] = None
 cand_in (b ∷ bs) = if b == 116 then option_map Tok (id_in bs) else if b == 111 then option_map Out (id_in bs) else None
@@ -90,12 +92,14 @@ only_in [] = None
 only_in (one ∷ []) = Some one
 only_in (one ∷ two ∷ words) = None
 
+-- two words, and no more
 abbrev pub two_in : List (List ℕ) → Option (List ℕ × List ℕ)
 two_in [] = None
 two_in (one ∷ []) = None
 two_in (one ∷ two ∷ []) = Some (one, two)
 two_in (one ∷ two ∷ three ∷ words) = None
 
+-- three words, and no more
 abbrev pub three_in : List (List ℕ) → Option (List ℕ × List ℕ × List ℕ)
 three_in [] = None
 three_in (one ∷ []) = None
@@ -109,21 +113,25 @@ alone_number_in ws = do
   word ← only_in ws
   number_in word
 
+-- one word: a number of at most the limit
 unfoldable pub alone_limited_in : ℕ → List (List ℕ) → Option ℕ
 alone_limited_in most ws = do
   word ← only_in ws
   number_to most word
 
+-- one word: a moment
 unfoldable pub alone_span_in : List (List ℕ) → Option Span
 alone_span_in ws = do
   word ← only_in ws
   span_in word
 
+-- one word: a candidate
 unfoldable pub alone_cand_in : List (List ℕ) → Option Cand
 alone_cand_in ws = do
   word ← only_in ws
   cand_in word
 
+-- one word: an outside action
 unfoldable pub alone_out_in : List (List ℕ) → Option ℕ
 alone_out_in ws = do
   word ← only_in ws
@@ -137,6 +145,7 @@ cand_id_in ws = do
   n ← id_in two.1
   Some (c, n)
 
+-- a number, and whether what is told comes after or ahead
 unfoldable pub id_side_in : List (List ℕ) → Option (ℕ × Bool)
 id_side_in ws = do
   two ← two_in ws
@@ -144,6 +153,7 @@ id_side_in ws = do
   after ← is_after_in two.1
   Some (n, after)
 
+-- whether what is told comes after or ahead, and a moment
 unfoldable pub side_span_in : List (List ℕ) → Option (Bool × Span)
 side_span_in ws = do
   two ← two_in ws
@@ -160,6 +170,7 @@ id_side_span_in ws = do
   v ← span_in three.2
   Some (n, after, v)
 
+-- two numbers of tokens, atoms or actions
 unfoldable pub two_ids_in : List (List ℕ) → Option (ℕ × ℕ)
 two_ids_in ws = do
   two ← two_in ws
@@ -167,6 +178,7 @@ two_ids_in ws = do
   y ← id_in two.1
   Some (x, y)
 
+-- three numbers of tokens, atoms or actions
 unfoldable pub three_ids_in : List (List ℕ) → Option (ℕ × ℕ × ℕ)
 three_ids_in ws = do
   three ← three_in ws
@@ -175,6 +187,7 @@ three_ids_in ws = do
   z ← id_in three.2
   Some (x, y, z)
 
+-- two numbers
 unfoldable pub two_numbers_in : List (List ℕ) → Option (ℕ × ℕ)
 two_numbers_in ws = do
   two ← two_in ws
@@ -187,10 +200,12 @@ abbrev pub r9 : ℕ → ℕ → ℕ × Bool → Step
 r9 x p (d, true) = R9After x p d
 r9 x p (d, false) = R9Ahead x p d
 
+-- a step of rule 11: after, or ahead
 abbrev pub r11 : ℕ → ℕ → ℕ × Bool × Span → Step
 r11 x p (a, true, v) = R11After x p a v
 r11 x p (a, false, v) = R11Ahead x p a v
 
+-- a step of rule 12: after, or ahead
 abbrev pub r12 : ℕ → ℕ → Bool × Span → Step
 r12 x a (true, v) = R12After x a v
 r12 x a (false, v) = R12Ahead x a v
@@ -222,24 +237,31 @@ numbered_in n (one ∷ two ∷ ws) = do
   p ← id_in two
   option_map (λ step. lines.Node (Narrow step)) (step_in n x p ws)
 
+-- the join with these numbers
 abbrev pub join_of : ℕ × ℕ × ℕ → Decision
 join_of (x, p, y) = Join x p y
 
+-- the decision that brings a token, with these numbers
 abbrev pub bring_of : ℕ × ℕ × ℕ → Decision
 bring_of (x, p, a) = Bring x p a
 
+-- the order of these tokens
 abbrev pub before_of : ℕ × ℕ → Decision
 before_of (x, y) = Before x y
 
+-- the threat with these numbers
 abbrev pub threat_of : ℕ × ℕ × ℕ → Flaw
 threat_of (x, p, d) = Threat x p d
 
+-- the open need with these numbers
 abbrev pub open_of : ℕ × ℕ → Flaw
 open_of (x, p) = OpenNeed x p
 
+-- the clash of these tokens
 abbrev pub clash_of : ℕ × ℕ → Flaw
 clash_of (x, y) = Clash x y
 
+-- a decision: its kind, then its numbers
 unfoldable pub decision_in : List (List ℕ) → Option Decision
 decision_in [] = None
 decision_in (kind ∷ ws) =
@@ -248,6 +270,7 @@ decision_in (kind ∷ ws) =
     else if bytes_eq kind (codes "before") then option_map before_of (two_ids_in ws)
     else None
 
+-- a flaw: its kind, then its numbers
 unfoldable pub flaw_in : List (List ℕ) → Option Flaw
 flaw_in [] = None
 flaw_in (kind ∷ ws) =
@@ -256,6 +279,7 @@ flaw_in (kind ∷ ws) =
     else if bytes_eq kind (codes "clash") then option_map clash_of (two_ids_in ws)
     else None
 
+-- a version: `1` or `2`
 unfoldable pub version_in : List (List ℕ) → Option Version
 version_in ws = do
   word ← only_in ws
@@ -269,6 +293,7 @@ spent_in ws = do
   nodes ← number_to 4294967295 two.1
   if nodes == 0 then None else Some (claims.Spent refuted nodes)
 
+-- a claim: its kind, then its numbers, which keep their limits
 unfoldable pub claim_in : List (List ℕ) → Option Claim
 claim_in [] = None
 claim_in (kind ∷ ws) =
@@ -287,6 +312,7 @@ node_in head ws =
     else if bytes_eq head (codes "open") then nothing_in OpenNode ws
     else None
 
+-- the line with these numbers of atoms and actions
 abbrev pub sizes_of : ℕ × ℕ → CertLine
 sizes_of (atoms, actions) = lines.Sizes atoms actions
 
@@ -309,11 +335,13 @@ abbrev pub row_span : Span → Option Span
 row_span (At n) = if nat_lt n 1000000000000000 then Some (At n) else None
 row_span Never = Some Never
 
+-- a value of a row: a moment that rows may have
 unfoldable pub row_span_in : List ℕ → Option Span
 row_span_in word = do
   v ← span_in word
   row_span v
 
+-- a value alone, or a value and how often it stands: from 2 to 2,048 times
 unfoldable pub run_by : List ℕ → Option (List ℕ × List ℕ) → Option Run
 run_by word None = do
   v ← row_span_in word
@@ -327,6 +355,7 @@ run_by word (Some (value, count)) = do
 unfoldable pub run_in : List ℕ → Option Run
 run_in word = run_by word (cut 42 word)
 
+-- the runs of a row, a word each
 unfoldable pub runs_in : List (List ℕ) → Option (List Run)
 runs_in [] = Some []
 runs_in (word ∷ words) = do
@@ -339,6 +368,7 @@ abbrev pub are_alone : List Run → Bool
 are_alone [] = true
 are_alone (run ∷ runs) = (run.count == 1) && are_alone runs
 
+-- no two runs one behind the other have the same value
 abbrev pub are_runs : List Run → Bool
 are_runs [] = true
 are_runs (run ∷ []) = true
@@ -357,6 +387,7 @@ named_in head ws =
     else if bytes_eq head (codes "d") then option_map (λ runs. lines.DistRow runs) (row_in ws)
     else worded_in head ws
 
+-- a line by its first word: a number, or a name
 abbrev pub line_by : Option ℕ → List ℕ → List (List ℕ) → Option CertLine
 line_by (Some n) head ws = numbered_in n ws
 line_by None head ws = named_in head ws

@@ -114,6 +114,7 @@ pub fn id(word: &[u8]) -> Option<u32>
     Some(n.min(4_294_967_295) as u32)
 }
 
+/// The moment that the word says: a number, or `never`.
 #[tactic(auto, unfolding(crate::specs::Reading::span_in))]
 pub fn span(word: &[u8]) -> Option<Span>
     ensures { result ≡ span_in word.now }

@@ -62,6 +62,7 @@ pub record IsTooLong (t : TaskShape) (most : ℕ) (text : List ℕ) : Type 0 whe
   pub size : most < length text
   pub faultless : (line : ℕ) (why : Why) → StandsWithin t most text line why → ⊥
 
+-- the ruling on a text
 abbrev pub RulesOf : TaskShape → ℕ → List ℕ → Option Version → Ruling → Type 0
 RulesOf t most text version (Accepted claim) = IsAccepted t most text version claim
 RulesOf t most text version (Rejected line why) = IsRejected t most text version line why
@@ -99,6 +100,7 @@ RulingHolds t text version (Accepted claim) =
     (named : Version) × (version ≡ Some named) × ((c : Parts) × IsCertificate t text named claim c × HoldsOf t claim c.plan)
 RulingHolds t text version (Rejected line why) = ⊤
 
+-- where there is a ruling, it holds
 abbrev pub Holds : TaskShape → List ℕ → Result Judged CheckError → Type 0
 Holds t text (Ok judged) = RulingHolds t text judged.version judged.ruling
 Holds t text (Err e) = ⊤

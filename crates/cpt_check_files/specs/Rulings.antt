@@ -81,6 +81,7 @@ ruling_answer judged = record { status = ruling_status judged.ruling; text = ver
 abbrev pub accepted_lines : Version → Claim → List ℕ
 accepted_lines version claim = version_line (Some version) ++ accepted_line claim
 
+-- the line of the version, where it is told, and that of the fault
 abbrev pub rejected_lines : Option Version → ℕ → Why → List ℕ
 rejected_lines version line why = version_line version ++ rejected_line line why
 
@@ -95,6 +96,7 @@ abbrev pub bytes_of : Option (List ℕ) → Result (List ℕ) Ending
 bytes_of None = Err endings.Read
 bytes_of (Some bytes) = Ok bytes
 
+-- the bytes of a file, or why there are none
 abbrev pub bytes_under : Files → List ℕ → Result (List ℕ) Ending
 bytes_under files name = bytes_of (files name)
 

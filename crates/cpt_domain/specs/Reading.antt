@@ -93,6 +93,7 @@ pub record Part : Type 0 where
   pub schemas : List Schema
   pub acting : Bool
 
+-- a domain of which nothing is read yet
 abbrev pub nothing_read : Part
 nothing_read = record { declared = nothing_declared; seen = unseen; names = []; schemas = []; acting = false }
 
@@ -142,6 +143,7 @@ name_in items = do
 abbrev pub type_decls : List (List ℕ) → List ℕ → List TypeDecl
 type_decls names parents = map (λ (p : List ℕ × ℕ). record { name = p.0; parent = p.1 }) (zip names parents)
 
+-- objects of these names and types
 abbrev pub object_decls : List (List ℕ) → List ℕ → List ObjectDecl
 object_decls names kinds = map (λ (p : List ℕ × ℕ). record { name = p.0; kind = p.1 }) (zip names kinds)
 
@@ -149,6 +151,7 @@ object_decls names kinds = map (λ (p : List ℕ × ℕ). record { name = p.0; k
 abbrev pub predicate_list : List (List ℕ) → List (List ℕ) → List Predicate
 predicate_list names kinds = map (λ (p : List ℕ × List ℕ). record { name = p.0; kinds = p.1 }) (zip names kinds)
 
+-- functions of these names and parameter types
 abbrev pub function_list : List (List ℕ) → List (List ℕ) → List Function
 function_list names kinds = map (λ (p : List ℕ × List ℕ). record { name = p.0; kinds = p.1 }) (zip names kinds)
 

@@ -24,6 +24,7 @@ pub record FitTogether (types objects : ℕ) (parents kinds : List ℕ) (predica
 abbrev pub predicate_kinds : Domain → List (List ℕ)
 predicate_kinds d = map (λ (p : Predicate). p.kinds) d.predicates
 
+-- the types of the functions' parameters
 abbrev pub function_kinds : Domain → List (List ℕ)
 function_kinds d = map (λ (f : Function). f.kinds) d.functions
 

@@ -31,6 +31,7 @@ lamps = record {
   functions = record { name = codes "warm"; kinds = 1 ∷ [] } ∷ [];
 }
 
+-- the types of the sample, in groups by their parents
 abbrev pub lamp_groups : List Siblings
 lamp_groups = record { kinds = 1 ∷ []; parent = 0 } ∷ record { kinds = 2 ∷ []; parent = 1 } ∷ []
 

@@ -64,9 +64,11 @@ kind_of declared params (Object number) = slice_index declared.constants.kinds n
 abbrev pub AreOfTypes : Declared → List ℕ → List ℕ → List Term → Type 0
 AreOfTypes declared params wanted terms = AllZip (λ term kind. is_below declared.types.parents (kind_of declared params term) kind ≡ true) terms wanted
 
+-- the terms of the atom have the types of its predicate's parameters
 abbrev pub IsTypedAtom : Declared → List ℕ → Lit → Type 0
 IsTypedAtom declared params lit = AreOfTypes declared params (slice_index_or declared.predicates.kinds lit.pred []) lit.terms
 
+-- a fixed duration, or a function's value at terms of its parameters' types
 abbrev pub IsTypedLasting : Declared → List ℕ → Lasting → Type 0
 IsTypedLasting declared params (Fixed n) = Unit {0}
 IsTypedLasting declared params (Value func terms) = AreOfTypes declared params (slice_index_or declared.functions.kinds func []) terms

@@ -54,6 +54,7 @@ abbrev pub term_word : Declared → Term → List ℕ
 term_word declared (Param number) = variable number
 term_word declared (Object number) = named declared.constants.names number
 
+-- the words of terms
 abbrev pub terms_nest : Declared → List Term → Nest
 terms_nest declared [] = nothing
 terms_nest declared (term ∷ terms) = name (term_word declared term) (terms_nest declared terms)
@@ -62,6 +63,7 @@ terms_nest declared (term ∷ terms) = name (term_word declared term) (terms_nes
 abbrev pub applied_nest : Declared → List (List ℕ) → ℕ → List Term → Nest
 applied_nest declared names number terms = name (named names number) (terms_nest declared terms)
 
+-- an atom: its predicate, then its terms
 abbrev pub atom_nest : Declared → Lit → Nest
 atom_nest declared lit = applied_nest declared declared.predicates.names lit.pred lit.terms
 
@@ -98,6 +100,7 @@ abbrev pub lasting_nest : Declared → Lasting → Nest
 lasting_nest declared (Fixed n) = name (decimal n) nothing
 lasting_nest declared (Value func terms) = list (applied_nest declared declared.functions.names func terms) nothing
 
+-- what the duration is: `= ?duration` and the number or the function's value
 abbrev pub duration_nest : Declared → Lasting → Nest
 duration_nest declared lasting = name (codes "=") (name (codes "?duration") (lasting_nest declared lasting))
 
@@ -105,13 +108,16 @@ duration_nest declared lasting = name (codes "=") (name (codes "?duration") (las
 abbrev pub effect_nest : Declared → Schema → Nest
 effect_nest declared s = name (codes ":effect") (list (name (codes "at") (name (codes "end") (list (effects_nest declared s) nothing))) nothing)
 
+-- the conditions over all of the action, then its effects
 abbrev pub condition_nest : Declared → Schema → Nest
 condition_nest declared s =
     name (codes ":condition") (list (name (codes "over") (name (codes "all") (list (conditions_nest declared s) nothing))) (effect_nest declared s))
 
+-- the duration, then conditions and effects
 abbrev pub timing_nest : Declared → Schema → Nest
 timing_nest declared s = name (codes ":duration") (list (duration_nest declared s.dur) (condition_nest declared s))
 
+-- an action with a duration: name, parameters, duration, conditions, effects
 abbrev pub action_nest : Declared → Schema → Nest
 action_nest declared s = name s.name (name (codes ":parameters") (list (variables_nest declared.types.names s.kinds) (timing_nest declared s)))
 
@@ -120,6 +126,7 @@ abbrev pub plain_nest : Declared → Schema → Nest
 plain_nest declared s =
     name (codes ":precondition") (list (conditions_nest declared s) (name (codes ":effect") (list (effects_nest declared s) nothing)))
 
+-- an action without a duration: name, parameters, conditions, effects
 abbrev pub plain_action_nest : Declared → Schema → Nest
 plain_action_nest declared s = name s.name (name (codes ":parameters") (list (variables_nest declared.types.names s.kinds) (plain_nest declared s)))
 
@@ -132,15 +139,19 @@ actions_nest declared (s ∷ schemas) = list (name (codes ":durative-action") (a
 abbrev pub kinds_of : Domain → Kinds
 kinds_of d = record { names = map (λ (t : TypeDecl). t.name) d.types; parents = map (λ (t : TypeDecl). t.parent) d.types }
 
+-- the constants of a domain, names and types apart
 abbrev pub constants_of : Domain → Typed
 constants_of d = record { names = map (λ (o : ObjectDecl). o.name) d.constants; kinds = map (λ (o : ObjectDecl). o.kind) d.constants }
 
+-- the predicates of a domain, names and types apart
 abbrev pub predicates_of : Domain → Signatures
 predicates_of d = record { names = map (λ (p : Predicate). p.name) d.predicates; kinds = map (λ (p : Predicate). p.kinds) d.predicates }
 
+-- the functions of a domain, names and types apart
 abbrev pub functions_of : Domain → Signatures
 functions_of d = record { names = map (λ (f : Function). f.name) d.functions; kinds = map (λ (f : Function). f.kinds) d.functions }
 
+-- what a domain declares beside its actions
 abbrev pub declared_of : Domain → Declared
 declared_of d = record { types = kinds_of d; constants = constants_of d; predicates = predicates_of d; functions = functions_of d }
 

@@ -69,6 +69,7 @@ pub record IsOn (rules : List ℕ) (t : TaskShape) (b : Tables) (c : Cand) (s u 
   pub less : work u new.room (c ∷ new.waiting) ≤ work s old.room (c ∷ old.waiting)
   pub falls : room u < room s
 
+-- one step was made for a subject: the sheet is dead, or it is live and less work is left
 abbrev pub IsAdvanced : State → List ℕ → TaskShape → Tables → Cand → Sheet → Sheet → AgendaShape → AgendaShape → Type 0
 IsAdvanced Alive rules t b c s u old new = IsOn rules t b c s u old new
 IsAdvanced Dead rules t b c s u old new = IsDead u
@@ -79,6 +80,7 @@ pub record IsOff (rules : List ℕ) (t : TaskShape) (b : Tables) (u : Sheet) (ne
   pub running : IsRunning rules t b u new new.waiting
   pub less : work u new.room new.waiting < most
 
+-- one turn is done: the sheet is dead, or it is live and less work is left than this
 abbrev pub IsTurned : State → List ℕ → TaskShape → Tables → Sheet → AgendaShape → ℕ → Type 0
 IsTurned Alive rules t b u new most = IsOff rules t b u new most
 IsTurned Dead rules t b u new most = IsDead u

@@ -19,12 +19,15 @@ objects_of d p = d.constants ++ p.objects
 abbrev pub no_predicate : Predicate
 no_predicate = record { name = []; kinds = [] }
 
+-- the predicate of a number
 abbrev pub predicate_at : Domain → ℕ → Predicate
 predicate_at d n = slice_index_or d.predicates n no_predicate
 
+-- a function in the place of one that is not there
 abbrev pub no_function : Function
 no_function = record { name = []; kinds = [] }
 
+-- the function of a number
 abbrev pub function_at : Domain → ℕ → Function
 function_at d n = slice_index_or d.functions n no_function
 
@@ -58,6 +61,7 @@ pub record ValueFits (d : Domain) (p : Problem) (v : Valued) : Type 0 where
 abbrev pub no_value : Valued
 no_value = record { func = 0; args = []; value = 0 }
 
+-- the value at a place of the problem's list
 abbrev pub value_at : Problem → ℕ → Valued
 value_at p i = slice_index_or p.values i no_value
 

@@ -27,6 +27,7 @@ abbrev pub ground_ending : GroundError → Ending
 ground_ending (ground_errors.Limit which) = Because (Passed which)
 ground_ending ground_errors.Memory = Memory
 
+-- the ending where the kept part is not had
 abbrev pub prune_ending : PruneError → Ending
 prune_ending (prune_errors.Limit which) = Because (Passed which)
 prune_ending prune_errors.Memory = Memory

@@ -81,5 +81,6 @@ ProblemText d text r = ThenBy (ParsesTo OfProblem text) (λ forest r. ended prob
 abbrev pub DomainUnder : Files → List ℕ → Result Domain Ending → Type 0
 DomainUnder files name = Then (text_under files name) DomainText
 
+-- the problem in a file
 abbrev pub ProblemUnder : Files → Domain → List ℕ → Result Problem Ending → Type 0
 ProblemUnder files d name = Then (text_under files name) (ProblemText d)

@@ -32,6 +32,7 @@ Carries s (Before x y) = before s x y ≡ true
 abbrev pub ExtendsItself : Type 0
 ExtendsItself = (s : Sheet) → Extends s s
 
+-- what extends an extension extends the first
 abbrev pub ExtendsOn : Type 0
 ExtendsOn = (s u v : Sheet) → Extends s u → Extends u v → Extends s v
 

@@ -8,6 +8,7 @@ use Rattle.cpt_ground.specs.Signed.{same_fact}
 abbrev pub fact_of : Atom → Fact
 fact_of a = record { pred = a.pred; args = a.args.now }
 
+-- the facts of atoms
 abbrev pub facts_of : List Atom → List Fact
 facts_of atoms = map fact_of atoms
 

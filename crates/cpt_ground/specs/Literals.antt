@@ -37,6 +37,7 @@ pub record AreSorted (l : Literals) : Type 0 where
 abbrev pub plain_number : Literals → Fact → Option ℕ
 plain_number l f = place_of (facts_of l.plain.items) f
 
+-- the number of a fact's complement, behind the plain atoms
 abbrev pub complement_number : Literals → Fact → Option ℕ
 complement_number l f = option_map (λ k. length l.plain.items + k) (place_of (facts_of l.complements.items) f)
 
@@ -44,6 +45,7 @@ complement_number l f = option_map (λ k. length l.plain.items + k) (place_of (f
 abbrev pub plain_numbers : Literals → List Fact → List ℕ
 plain_numbers l facts = filter_map (plain_number l) facts
 
+-- the numbers of the complements of facts, but of these
 abbrev pub complement_numbers : Literals → List Fact → List Fact → List ℕ
 complement_numbers l facts but = filter_map (complement_number l) (filter (λ f. not (has but f)) facts)
 

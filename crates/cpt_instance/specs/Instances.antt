@@ -25,6 +25,7 @@ parents_of d = map (λ (t : TypeDecl). t.parent) d.types
 abbrev pub no_object : ObjectDecl
 no_object = record { name = []; kind = 0 }
 
+-- the object of a number
 abbrev pub object_at : Domain → Problem → ℕ → ObjectDecl
 object_at d p o = slice_index_or (objects_of d p) o no_object
 
@@ -32,6 +33,7 @@ object_at d p o = slice_index_or (objects_of d p) o no_object
 abbrev pub no_schema : Schema
 no_schema = record { name = []; kinds = []; dur = Fixed 0; pre = []; add = []; dele = []; tests = []; absent = [] }
 
+-- the schema of a number
 abbrev pub schema_at : Domain → ℕ → Schema
 schema_at d n = slice_index_or d.schemas n no_schema
 
@@ -49,6 +51,7 @@ abbrev pub object_for : List ℕ → Term → ℕ
 object_for args (Param k) = slice_index args k
 object_for args (Object o) = o
 
+-- the objects of terms, where parameters have these
 abbrev pub objects_for : List ℕ → List Term → List ℕ
 objects_for args terms = map (object_for args) terms
 
@@ -56,6 +59,7 @@ objects_for args terms = map (object_for args) terms
 abbrev pub ground_atom : List ℕ → Lit → Fact
 ground_atom args lit = record { pred = lit.pred; args = objects_for args lit.terms }
 
+-- the facts of atoms, where parameters have these objects
 abbrev pub ground_atoms : List ℕ → List Lit → List Fact
 ground_atoms args lits = map (ground_atom args) lits
 

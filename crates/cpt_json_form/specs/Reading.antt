@@ -124,6 +124,7 @@ GivesTask view (Err task_errors.BadName) P = P (Err task_errors.BadName)
 GivesTask view (Err task_errors.Atom) P = P (Err task_errors.Atom)
 GivesTask view (Err task_errors.Duration) P = P (Err task_errors.Duration)
 
+-- a result says what P asks of what it shows, or memory ran out
 abbrev pub GivesPlan : {X Y : Type 0} → (X → Y) → Result X JsonPlanError → (Result Y JsonPlanError → Type 0) → Type 0
 GivesPlan view (Ok x) P = P (Ok (view x))
 GivesPlan view (Err plan_errors.Memory) P = ⊤
@@ -138,6 +139,7 @@ abbrev pub misread_task : Misread → JsonTaskError
 misread_task misreads.Shape = task_errors.Shape
 misread_task misreads.Memory = task_errors.Memory
 
+-- what an item that is not read makes of a plan
 abbrev pub misread_plan : Misread → JsonPlanError
 misread_plan misreads.Shape = plan_errors.Shape
 misread_plan misreads.Memory = plan_errors.Memory

@@ -20,14 +20,17 @@ list_value value xs = array (items_of (map value xs))
 abbrev pub numbers_value : List ℕ → Data
 numbers_value ns = list_value number_value ns
 
+-- names: an array of strings
 abbrev pub names_value : List (List ℕ) → Data
 names_value names = list_value string names
 
 -- ---- objects, whose keys stand in the order of their bytes
 
+-- an action: an object of these five members
 abbrev pub action_object : (add del dur name pre : Data) → Data
 action_object add del dur name pre = object (member (codes "add") add (member (codes "del") del (member (codes "dur") dur (member (codes "name") name (member (codes "pre") pre no_members)))))
 
+-- a task: an object of these four members
 abbrev pub task_object : (actions atoms goal init : Data) → Data
 task_object actions atoms goal init = object (member (codes "actions") actions (member (codes "atoms") atoms (member (codes "goal") goal (member (codes "init") init no_members))))
 
@@ -35,14 +38,17 @@ task_object actions atoms goal init = object (member (codes "actions") actions (
 abbrev pub timed_object : (dur name start : Data) → Data
 timed_object dur name start = object (member (codes "dur") dur (member (codes "name") name (member (codes "start") start no_members)))
 
+-- an item of a plan: an object of a name and a start
 abbrev pub item_object : (name start : Data) → Data
 item_object name start = object (member (codes "name") name (member (codes "start") start no_members))
 
 -- ---- tasks and plans
 
+-- the value of an action
 abbrev pub action_value : Action → Data
 action_value a = action_object (numbers_value a.add) (numbers_value a.dele) (number_value a.dur) (string a.name) (numbers_value a.pre)
 
+-- the value of a task
 abbrev pub task_value : TaskShape → Data
 task_value t = task_object (list_value action_value t.actions) (names_value t.atoms) (numbers_value t.goal) (numbers_value t.init)
 
@@ -51,9 +57,11 @@ abbrev pub item_with : Option ℕ → (name start : Data) → Data
 item_with None name start = item_object name start
 item_with (Some dur) name start = timed_object (number_value dur) name start
 
+-- the value of an item of a plan, with its duration where it has one
 abbrev pub item_value : PlanItem → Data
 item_value i = item_with i.dur (string i.name) (number_value i.start)
 
+-- the value of a plan: an array of its items
 abbrev pub plan_value : List PlanItem → Data
 plan_value items = list_value item_value items
 

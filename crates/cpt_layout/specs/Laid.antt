@@ -17,6 +17,7 @@ pub record IsLaid (s : Frame) (bs fs hs : List ℕ) : Type 0 where
 abbrev pub frame_of : Inside → Frame
 frame_of l = record { bound = l.bound; pre = l.pre; goal = l.goal; adders = l.adders; kinds = l.kinds.items }
 
+-- what is seen of a layout: its frame, and the room for tokens and for preconditions
 abbrev pub shape_of : Inside → LayoutShape
 shape_of l = record {
   frame = frame_of l;
@@ -24,5 +25,6 @@ shape_of l = record {
   need_room = vec_capacity l.heads - vec_len l.heads;
 }
 
+-- its lists number the cells of its frame
 abbrev pub IsSound : Inside → Type 0
 IsSound l = IsLaid (frame_of l) l.bases.items l.firsts.items l.heads.items

@@ -12,6 +12,7 @@ abbrev pub own_cells : List (List ℕ) → ℕ → List ℕ → ℕ → ℕ
 own_cells adders x needs zero = 0
 own_cells adders x needs (suc n) = own_cells adders x needs n + (2 + x + length (slice_index_or adders (slice_index_or needs n 0) []))
 
+-- how many cells of a token lie before those of its n-th precondition
 abbrev pub cells_before : Frame → ℕ → ℕ → ℕ
 cells_before s x n = own_cells s.adders x (needs_at s x) n
 

@@ -27,6 +27,7 @@ pub record Frame : Type 0 where
 abbrev pub extended : Frame → List Kind → Frame
 extended s ks = record s { kinds = s.kinds ++ ks }
 
+-- the frame with its first n tokens alone
 abbrev pub cut : Frame → ℕ → Frame
 cut s n = record s { kinds = take n s.kinds }
 
@@ -40,6 +41,7 @@ abbrev pub kept : {X : Type 0} → (X → Bool) → List X → List X
 kept f [] = []
 kept f (x ∷ xs) = if f x then x ∷ kept f xs else kept f xs
 
+-- the kind of a token
 abbrev pub kind_at : Frame → ℕ → Kind
 kind_at s x = slice_index_or s.kinds x Start
 
@@ -49,6 +51,7 @@ needs_by_lists pre goal Start = []
 needs_by_lists pre goal End = goal
 needs_by_lists pre goal (Act a) = slice_index_or pre a []
 
+-- the preconditions of a kind of token
 abbrev pub needs_by : Frame → Kind → List ℕ
 needs_by s k = needs_by_lists s.pre s.goal k
 
@@ -56,6 +59,7 @@ needs_by s k = needs_by_lists s.pre s.goal k
 abbrev pub needs_at : Frame → ℕ → List ℕ
 needs_at s x = needs_by s (kind_at s x)
 
+-- the atom of the j-th precondition of a token
 abbrev pub atom_at : Frame → ℕ → ℕ → ℕ
 atom_at s x j = slice_index_or (needs_at s x) j 0
 

@@ -33,6 +33,7 @@ abbrev pub lo_of : Cand → Place
 lo_of (Tok x) = tok_lo x
 lo_of (Out a) = out_lo a
 
+-- where the greatest moment lies of a token or an outside action
 abbrev pub hi_of : Cand → Place
 hi_of (Tok x) = tok_hi x
 hi_of (Out a) = out_hi a

@@ -33,18 +33,23 @@ is_cand v x j (Out a) = v (member x j (Out a)) == 1
 abbrev pub is_order : (Place → ℕ) → ℕ × ℕ → Bool
 is_order v o = not (o.0 == o.1) && (v (order o.0 o.1) == 1)
 
+-- the interval of an outside action that lies in places
 abbrev pub out_from : (Place → ℕ) → ℕ → Interval
 out_from v a = record { lo = span_from (v (out_lo a)); hi = v (out_hi a) }
 
+-- the interval of a token that lies in places
 abbrev pub span_at : (Place → ℕ) → ℕ → Interval
 span_at v x = record { lo = span_from (v (tok_lo x)); hi = v (tok_hi x) }
 
+-- the j-th precondition of a token, with the candidates that lie in places
 abbrev pub need_from : Frame → (Place → ℕ) → ℕ → ℕ → Need
 need_from s v x j = record { atom = atom_at s x j; cands = kept (is_cand v x j) (all_cands s (atom_at s x j)) }
 
+-- a token that lies in places
 abbrev pub token_from : Frame → (Place → ℕ) → ℕ → Token
 token_from s v x = record { kind = kind_at s x; span = span_at v x; lists = table (need_from s v x) 0 (length (needs_at s x)) }
 
+-- the orders of n tokens that lie in places
 abbrev pub orders_from : (Place → ℕ) → ℕ → List (ℕ × ℕ)
 orders_from v n = kept (is_order v) (all_pairs n 0 n)
 

@@ -20,9 +20,11 @@ version_of word = if bytes_eq word (codes "1") then Some One else if bytes_eq wo
 abbrev pub with_max : Options → ℕ → Options
 with_max given n = record { max = Some n; nodes = given.nodes; version = given.version }
 
+-- the options with this number of nodes
 abbrev pub with_nodes : Options → ℕ → Options
 with_nodes given n = record { max = given.max; nodes = Some n; version = given.version }
 
+-- the options with this version
 abbrev pub with_version : Options → Version → Options
 with_version given v = record { max = given.max; nodes = given.nodes; version = Some v }
 
@@ -45,6 +47,7 @@ options_behind given [] = Some given
 options_behind given (word ∷ []) = None
 options_behind given (word ∷ value ∷ more) = option_and_then (λ g. options_behind g more) (with_option given word value)
 
+-- no option is given
 abbrev pub no_options : Options
 no_options = record { max = None; nodes = None; version = None }
 

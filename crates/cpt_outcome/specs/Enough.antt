@@ -42,12 +42,15 @@ geometric k (suc n) = geometric k n + k ^ suc n
 abbrev pub most_tokens : ℕ → ℕ → ℕ
 most_tokens k b = 2 + geometric k (suc b)
 
+-- at most so many decisions on a way, where nothing needs more than k atoms, for the bound b
 abbrev pub most_decisions : ℕ → ℕ → ℕ
 most_decisions k b = let n = most_tokens k b in n * k + n * n * k + n * n
 
+-- at most so many children of a flaw
 abbrev pub most_children : TaskShape → ℕ → ℕ → ℕ
 most_children t k b = most_tokens k b + length t.actions + 2
 
+-- so many nodes are enough for a tree
 abbrev pub enough_for : TaskShape → ℕ → ℕ → ℕ
 enough_for t k b = power_sum (most_children t k b) (most_decisions k b)
 
@@ -64,6 +67,7 @@ pub record IsBrought (u : Sheet) (x : ℕ) : Type 0 where
   pub sole : IsToken (cands u consumer atom) x
   pub order : before u x consumer ≡ true
 
+-- each token but start and end was brought
 abbrev pub AreBrought : Sheet → Type 0
 AreBrought u = (x : ℕ) → 2 ≤ x → x < length u.tokens → IsBrought u x
 
@@ -72,6 +76,7 @@ pub data Commitment : Type 0 where
   on_list : ℕ → ℕ → Commitment
   on_order : ℕ → ℕ → Commitment
 
+-- what a decision settles: a list, or an order
 abbrev pub commitment_of : Decision → Commitment
 commitment_of (Join x p y) = on_list x p
 commitment_of (Bring x p a) = on_list x p

@@ -73,6 +73,7 @@ pub record IsClosedSheet (w : SearchProblem) (b : ℕ) (u : Sheet) : Type 0 wher
   pub live : IsLive u
   pub closed : IsClosed w.rules w.task w.tables u
 
+-- the fresh sheet of a node is closed for the rules
 abbrev pub FreshIsClosed : Type 0
 FreshIsClosed = (w : SearchProblem) (b : ℕ) (ds : Node) (u : Sheet) → IsFreshAt w b ds (Some u) → IsClosedSheet w b u
 

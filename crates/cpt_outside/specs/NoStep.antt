@@ -15,6 +15,7 @@ use Rattle.cpt_sheet.specs.Gaps.{arrival, IsImpossibleBeside}
 use Rattle.cpt_calculus.specs.Rules.{IsBeforeTokens, IsBeforeOuts, IsStep13}
 use Rattle.cpt_proposal.specs.Gains.{HasStep11After, HasStep11Ahead}
 
+-- the rules on outside actions
 abbrev pub outside_rules : List ℕ
 outside_rules = 10 ∷ 11 ∷ 12 ∷ 13 ∷ []
 

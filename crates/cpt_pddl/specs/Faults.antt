@@ -3,6 +3,7 @@ use Rattle.cpt_pddl.specs.declared.fault.Fault.{Fault}
 use Rattle.cpt_pddl.specs.declared.fault.Fault.TheVariants as faults
 
 infixl 10 ◌>>=◌
+-- one reading after another, up to the first fault
 abbrev pub ◌>>=◌ : {A B : Type 0} → Result A Fault → (A → Result B Fault) → Result B Fault
 (Ok x) >>= f = f x
 (Err e) >>= f = Err e

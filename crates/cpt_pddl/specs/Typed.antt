@@ -33,6 +33,7 @@ abbrev pub most : Sort → ℕ
 most Objects = 4096
 most Variables = 16
 
+-- the limit on lists of this sort
 abbrev pub limit_of : Sort → Limit
 limit_of Objects = limits.Objects
 limit_of Variables = limits.Parameters

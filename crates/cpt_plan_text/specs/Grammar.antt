@@ -5,6 +5,7 @@ use Rattle.cpt_line.specs.Names.{word_byte}
 use Rattle.cpt_plan_text.specs.declared.line.Entry.{Entry}
 
 infixl 10 ◌>>=◌
+-- one reading after another, up to the first that fails
 abbrev pub ◌>>=◌ : {A B : Type 0} → Option A → (A → Option B) → Option B
 None >>= f = None
 (Some x) >>= f = f x

@@ -14,6 +14,7 @@ use Rattle.cpt_plan_text.specs.declared.reading.PlanTextError.TheVariants as err
 use Rattle.cpt_plan_text.specs.Grammar.{line_in}
 
 infixl 10 ◌>>=◌
+-- one reading after another, up to the first fault
 abbrev pub ◌>>=◌ : {A B : Type 0} → Result A PlanTextError → (A → Result B PlanTextError) → Result B PlanTextError
 (Ok x) >>= f = f x
 (Err e) >>= f = Err e

@@ -17,6 +17,7 @@ pub record Aims : Type 0 where
   pub present : List Fact
   pub absent : List Fact
 
+-- no goal yet
 abbrev pub no_aims : Aims
 no_aims = record { present = []; absent = [] }
 
@@ -43,6 +44,7 @@ negated_by declared aims not_at atom at bytes rest (Untaken which) = Err (Featur
 negated_by declared aims not_at atom at bytes rest Numeric = absent_atom declared aims atom at bytes rest
 negated_by declared aims not_at atom at bytes rest Other = absent_atom declared aims atom at bytes rest
 
+-- the one atom behind `not`, and the end of the group
 abbrev pub negated_group : Declared → Aims → ℕ → ℕ → Items → Result Aims Fault
 negated_group declared aims not_at atom (end close) = Err (Shape close)
 negated_group declared aims not_at atom (word at bytes rest) = negated_by declared aims not_at atom at bytes rest (head_of bytes)

@@ -21,6 +21,7 @@ pub record Beginning : Type 0 where
   pub facts : List Fact
   pub values : List Valued
 
+-- no fact and no value yet
 abbrev pub nothing_begun : Beginning
 nothing_begun = record { facts = []; values = [] }
 
@@ -44,6 +45,7 @@ unless_known values item term = if has_value values term.number term.args then E
 abbrev pub is_value : Bool → ℕ → Bool
 is_value lasting n = if lasting then nat_le 1 n && nat_le n 100000 else nat_le n 4294967295
 
+-- the number that the word stands for, where it may be the value of the function
 abbrev pub value_by : Bool → ℕ → Option ℕ → Result ℕ Fault
 value_by lasting at None = Err (Duration at)
 value_by lasting at (Some n) = if is_value lasting n then Ok n else Err (Duration at)
@@ -80,6 +82,7 @@ with_fact declared begun item at bytes rest = do
   fact ← atom_in declared item at bytes rest
   Ok (record begun { facts = begun.facts ++ fact ∷ [] })
 
+-- one more value, of the equation in this group
 unfoldable pub with_value : List Schema → Declared → Beginning → ℕ → Items → Result Beginning Fault
 with_value schemas declared begun item rest = do
   value ← equation schemas declared begun.values item rest

@@ -68,6 +68,7 @@ abbrev pub requirements_by : Items → Option (ℕ × Items × Items) → Result
 requirements_by items None = Ok items
 requirements_by items (Some part) = words_only part.1 >>= (λ _. Ok part.2)
 
+-- what follows the section of requirements, where there is one
 unfoldable pub after_requirements : Items → Result Items Fault
 after_requirements items = requirements_by items (optional (codes ":requirements") items)
 
@@ -77,6 +78,7 @@ objects_by declared items None = Ok (declared, items)
 objects_by declared items (Some part) =
     typed_list Objects declared.types.names declared.constants part.1 >>= (λ objects. Ok (record declared { constants = objects }, part.2))
 
+-- what is declared with the section of objects, where there is one, and what follows it
 unfoldable pub after_objects : Declared → Items → Result (Declared × Items) Fault
 after_objects declared items = objects_by declared items (optional (codes ":objects") items)
 
@@ -121,5 +123,6 @@ abbrev pub metric_by : Items → Option (ℕ × Items × Items) → Result (Unit
 metric_by items None = no_section items
 metric_by items (Some part) = if is_metric part.1 then nothing part.2 else Err (Feature features.Metric part.0)
 
+-- the section of the metric, where there is one, and the end
 unfoldable pub metric_end : Items → Result (Unit {0}) Fault
 metric_end items = metric_by items (optional (codes ":metric") items)

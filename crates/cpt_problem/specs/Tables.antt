@@ -15,6 +15,7 @@ use Rattle.cpt_domain.specs.Reading.{object_decls}
 abbrev pub type_names : List TypeDecl → List (List ℕ)
 type_names types = map (λ (t : TypeDecl). t.name) types
 
+-- the parents of the types
 abbrev pub type_parents : List TypeDecl → List ℕ
 type_parents types = map (λ (t : TypeDecl). t.parent) types
 
@@ -22,6 +23,7 @@ type_parents types = map (λ (t : TypeDecl). t.parent) types
 abbrev pub object_names : List ObjectDecl → List (List ℕ)
 object_names objects = map (λ (o : ObjectDecl). o.name) objects
 
+-- the types of the objects
 abbrev pub object_kinds : List ObjectDecl → List ℕ
 object_kinds objects = map (λ (o : ObjectDecl). o.kind) objects
 
@@ -29,6 +31,7 @@ object_kinds objects = map (λ (o : ObjectDecl). o.kind) objects
 abbrev pub predicate_names : List Predicate → List (List ℕ)
 predicate_names predicates = map (λ (p : Predicate). p.name) predicates
 
+-- the types of the predicates' parameters
 abbrev pub predicate_kinds : List Predicate → List (List ℕ)
 predicate_kinds predicates = map (λ (p : Predicate). p.kinds) predicates
 
@@ -36,6 +39,7 @@ predicate_kinds predicates = map (λ (p : Predicate). p.kinds) predicates
 abbrev pub function_names : List Function → List (List ℕ)
 function_names functions = map (λ (f : Function). f.name) functions
 
+-- the types of the functions' parameters
 abbrev pub function_kinds : List Function → List (List ℕ)
 function_kinds functions = map (λ (f : Function). f.kinds) functions
 

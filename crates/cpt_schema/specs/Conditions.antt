@@ -87,6 +87,7 @@ negated_by declared params conds not_at atom at bytes rest (Untaken which) = Err
 negated_by declared params conds not_at atom at bytes rest Numeric = absent_atom declared params conds atom at bytes rest
 negated_by declared params conds not_at atom at bytes rest Other = absent_atom declared params conds atom at bytes rest
 
+-- the one group behind `not`: an atom or an equation
 abbrev pub negated_group : Declared → Typed → Conds → ℕ → ℕ → Items → Result Conds Fault
 negated_group declared params conds not_at atom (end close) = Err (Shape close)
 negated_group declared params conds not_at atom (word at bytes rest) = negated_by declared params conds not_at atom at bytes rest (head_of bytes)

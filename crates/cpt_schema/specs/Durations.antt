@@ -45,6 +45,7 @@ abbrev pub is_sign : List ℕ → Bool
 is_sign bytes =
     bytes_eq bytes (codes "+") || bytes_eq bytes (codes "-") || bytes_eq bytes (codes "*") || bytes_eq bytes (codes "/")
 
+-- the group begins with a sign of arithmetic
 abbrev pub is_sum : Items → Bool
 is_sum (end close) = false
 is_sum (word at bytes rest) = is_sign bytes
@@ -74,6 +75,7 @@ abbrev pub duration_by : Declared → Typed → ℕ → Option Items → Result 
 duration_by declared params from None = Err (Feature features.Duration from)
 duration_by declared params from (Some rest) = duration_value declared params from rest
 
+-- the duration behind `=`, where that stood
 abbrev pub duration_after : Declared → Typed → ℕ → Option Items → Result Lasting Fault
 duration_after declared params from None = Err (Feature features.Duration from)
 duration_after declared params from (Some rest) = duration_by declared params from (after_this (codes "?duration") rest)

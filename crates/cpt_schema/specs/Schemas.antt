@@ -43,6 +43,7 @@ parameters declared items = do
 abbrev pub no_conds : Conds
 no_conds = record { pre = []; absent = []; tests = [] }
 
+-- no effect yet
 abbrev pub no_effs : Effs
 no_effs = record { adds = []; dels = [] }
 

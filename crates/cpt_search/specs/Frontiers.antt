@@ -28,6 +28,7 @@ abbrev pub AreAtMost : ℕ → List Pending → Type 0
 AreAtMost n [] = Unit {0}
 AreAtMost n (w ∷ ws) = (w.depth ≤ n) × AreAtMost n ws
 
+-- each of what is pending lies at least so deep
 abbrev pub AreAtLeast : ℕ → List Pending → Type 0
 AreAtLeast n [] = Unit {0}
 AreAtLeast n (w ∷ ws) = (n ≤ w.depth) × AreAtLeast n ws

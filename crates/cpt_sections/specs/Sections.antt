@@ -75,6 +75,7 @@ ReadsItems t i n ls o =
 abbrev pub first_pair_rows : PairShape → ℕ → List (List Span)
 first_pair_rows h k = map (pair_row h) (range_with_len 0 k)
 
+-- the first k rows of a distance table
 abbrev pub first_dist_rows : DistShape → ℕ → List (List Span)
 first_dist_rows d k = map (dist_row d) (range_with_len 0 k)
 
@@ -83,6 +84,7 @@ abbrev pub ReadsPairRows : TaskShape → Version → PairRows → ℕ → List C
 ReadsPairRows t v r n ls o =
     Then (λ n ls x. x ≡ take_pair_rows v (length t.atoms - r.next) n ls) (λ rows. JudgesPairs t r.head (first_pair_rows r.pairs r.next ++ rows)) n ls o
 
+-- the rows of a distance table that are still to be read, and its judgement
 abbrev pub ReadsDistRows : TaskShape → Version → DistRows → ℕ → List CertLine → Outcome DistShape → Type 0
 ReadsDistRows t v r n ls o =
     Then (λ n ls x. x ≡ take_dist_rows v (length t.atoms) (length t.actions - r.next) n ls) (λ rows. JudgesDists t r.pairs r.head (first_dist_rows r.dists r.next ++ rows)) n ls o
@@ -123,6 +125,7 @@ abbrev pub AreTrees : Trees → Type 0
 AreTrees (trees.Closed bound) = bound ≤ 1000000
 AreTrees (trees.Open refuted nodes) = refuted ≤ 999999
 
+-- the bounds of the trees that are to come behind a table, if there are some, keep their limits
 abbrev pub IsAim : Aim → Type 0
 IsAim aims.Goal = Unit {0}
 IsAim (aims.Trees trees) = AreTrees trees
@@ -143,6 +146,7 @@ pub record ArePairRows (t : TaskShape) (n : ℕ) (r : PairRows) : Type 0 where
   pub more : r.next < length t.atoms
   pub line : n ≡ r.head + 1 + r.next
 
+-- the rows of a distance table, read in part
 pub record AreDistRows (t : TaskShape) (n : ℕ) (r : DistRows) : Type 0 where
   pub trees : AreTrees r.trees
   pub pairs : FitsPairs t r.pairs

@@ -38,6 +38,7 @@ abbrev pub first_of_trees : List Trees → Trees
 first_of_trees [] = none
 first_of_trees (trees ∷ more) = trees
 
+-- the trees of marks of trees are these trees
 pub trees_of-marks : (trees : Trees) (ms : List Mark) → trees_of (marks trees ++ ms) ≡ trees ∷ trees_of ms
 trees_of-marks none ms = refl
 trees_of-marks (word from to rest) ms = ap (after_word (from, to)) (trees_of-marks rest ms)
@@ -45,6 +46,7 @@ trees_of-marks (group from to inside rest) ms =
     ap (after_group (from, to))
     (ap trees_of (append_assoc (marks inside) (marks rest) ms) ∙ trees_of-marks inside (marks rest ++ ms) ∙ ap (λ ts. inside ∷ ts) (trees_of-marks rest ms))
 
+-- trees are read back from their marks
 pub read_back : (trees : Trees) → first_of_trees (trees_of (marks trees)) ≡ trees
 read_back trees =
     ap (λ ms. first_of_trees (trees_of ms)) (sym (append-nil (marks trees))) ∙ ap first_of_trees (trees_of-marks trees [])

@@ -5,12 +5,14 @@ ghost use Rattle.cpt_sexp.specs.Bytes.{is_blank, is_letter, plain, plain_from};
 ghost use Rattle.cpt_sexp.specs.Grammar.{IsGap, IsWord};
 ghost use Rattle.cpt_sexp.specs.Progress.{IsOutside, empties};
 
+/// Whether the byte is a space, a tab, a carriage return or a line feed.
 pub fn is_blank(b: u8) -> bool
     ensures { result ≡ is_blank b }
 {
     b == b' ' || b == b'\t' || b == b'\r' || b == b'\n'
 }
 
+/// Whether the byte stands in words: it is printable, no parenthesis and no semicolon.
 pub fn is_letter(b: u8) -> bool
     ensures { result ≡ is_letter b }
 {

@@ -16,9 +16,11 @@ use Rattle.cpt_sheet.specs.declared.data.Sheet.{Sheet}
 abbrev pub no_span : Interval
 no_span = record { lo = Never; hi = 0 }
 
+-- a precondition in the place of one that is not there
 abbrev pub no_need : Need
 no_need = record { atom = 0; cands = [] }
 
+-- a token in the place of one that is not there
 abbrev pub no_token : Token
 no_token = record { kind = Start; span = no_span; lists = [] }
 

@@ -28,9 +28,11 @@ no_plan_up_to_line b = line_of (codes "; no plan up to " ++ decimal b)
 abbrev pub refuted_line : ℕ → List ℕ
 refuted_line b = line_of (codes "; refuted " ++ decimal b)
 
+-- the line of the number of nodes
 abbrev pub nodes_line : ℕ → List ℕ
 nodes_line n = line_of (codes "; nodes " ++ decimal n)
 
+-- the lines of a refuted bound
 abbrev pub refuted_lines : ℕ → ℕ → List ℕ
 refuted_lines b n = refuted_line b ++ nodes_line n
 

@@ -20,9 +20,11 @@ abbrev pub span_room : Span → ℕ
 span_room (At n) = 4000000000000000 - n
 span_room Never = 0
 
+-- how often the ends of an interval can still move
 abbrev pub interval_room : Interval → ℕ
 interval_room i = span_room i.lo + i.hi
 
+-- how often a token's interval and lists can still narrow
 abbrev pub token_room : Token → ℕ
 token_room z = interval_room z.span + sum_by (λ n. length n.cands) z.lists
 
@@ -35,6 +37,7 @@ sum_below f (suc n) = sum_below f n + f n
 abbrev pub order_room : Sheet → ℕ → ℕ → ℕ
 order_room s x y = if before s x y then 0 else 1
 
+-- how many orders of n tokens do not stand yet
 abbrev pub orders_room : Sheet → ℕ → ℕ
 orders_room s n = sum_below (λ x. sum_below (order_room s x) n) n
 

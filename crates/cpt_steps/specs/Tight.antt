@@ -110,6 +110,7 @@ RunsAppend =
     (rules : List ℕ) (t : TaskShape) (b : Tables) (s m u : Sheet) (steps more : List Step) →
     Leads rules t b s steps m → Leads rules t b m more u → Leads rules t b s (steps ++ more) u
 
+-- tight runs, one after the other, are a tight run
 abbrev pub TightRunsAppend : Type 0
 TightRunsAppend =
     (rules : List ℕ) (t : TaskShape) (b : Tables) (s m u : Sheet) (steps more : List Step) →

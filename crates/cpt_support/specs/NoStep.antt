@@ -13,6 +13,7 @@ use Rattle.cpt_calculus.specs.Rules.{IsStep5, IsStep7}
 use Rattle.cpt_proposal.specs.Least.{IsLeast}
 use Rattle.cpt_proposal.specs.Gains.{HasStep4, HasStep6}
 
+-- the rules on candidate lists
 abbrev pub support_rules : List ℕ
 support_rules = 4 ∷ 5 ∷ 6 ∷ 7 ∷ []
 

@@ -172,6 +172,7 @@ fn has_company(
     begun.saturating_sub(ended) > own
 }
 
+/// Whether one of these atoms, which the occurrence `i` has in its list, another that overlaps it has in the list of the role.
 pub fn some_has_company(
     task: &Task,
     plan: &[Occ],

@@ -19,6 +19,7 @@ pub fn action_at<'a>(task: &'a Task, o: &Occ) -> &'a Action
     &task.actions()[o.act as usize]
 }
 
+/// The moment at which the occurrence ends.
 pub fn end_at(task: &Task, o: &Occ) -> u64
     requires { IsJudgeableAt task.now o.now }
     ensures end { result ≡ end_of task.now o.now }
@@ -33,12 +34,14 @@ fn is_among(xs: &[u32], p: u32) -> bool
     xs.contains(&p)
 }
 
+/// Whether the number is among these.
 pub fn contains(ids: &Ids, p: u32) -> bool
     ensures { result ≡ is_in p ids.now }
 {
     is_among(ids.as_slice(), p)
 }
 
+/// The greatest end of the plan, and 0 where it is empty.
 pub fn makespan_of(task: &Task, plan: &[Occ]) -> u64
     requires { IsJudgeable task.now plan.now }
     ensures makespan { result ≡ makespan task.now plan.now }
@@ -51,6 +54,7 @@ pub fn makespan_of(task: &Task, plan: &[Occ]) -> u64
     most
 }
 
+/// Whether an occurrence that ends at the moment adds the atom.
 pub fn is_added_at(task: &Task, plan: &[Occ], time: u64, p: u32) -> bool
     requires { IsJudgeable task.now plan.now }
     ensures { result ≡ adds_at task.now plan.now time p }

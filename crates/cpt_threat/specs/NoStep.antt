@@ -6,6 +6,7 @@ use Rattle.cpt_sheet.specs.declared.data.Sheet.{Sheet}
 use Rattle.cpt_calculus.specs.Rules.{IsStep8}
 use Rattle.cpt_proposal.specs.Gains.{HasStep9After, HasStep9Ahead}
 
+-- the rules on threats
 abbrev pub threat_rules : List ℕ
 threat_rules = 8 ∷ 9 ∷ []
 

@@ -78,6 +78,7 @@ pub data Reads (t : TaskShape) (b : Tables) (may_open : Bool) : Part → ℕ →
 abbrev pub ReadsTree : TaskShape → Tables → ℕ → ℕ → List CertLine → Outcome (List NodeLine) → Type 0
 ReadsTree t b bound n ls o = Then (λ n ls x. x ≡ take_tree bound n ls) (λ _. Reads t b false (node (root_of t b bound))) n ls o
 
+-- a tree that may have open nodes, over the root of a bound
 abbrev pub ReadsOpenTree : TaskShape → Tables → ℕ → ℕ → List CertLine → Outcome (List NodeLine) → Type 0
 ReadsOpenTree t b bound n ls o = Then (λ n ls x. x ≡ take_open_tree bound n ls) (λ _. Reads t b true (node (root_of t b bound))) n ls o
 
@@ -99,6 +100,7 @@ ReadsTables t v next n ls o =
 abbrev pub ReadsLastTree : TaskShape → ℕ → Tables → ℕ → List CertLine → Outcome (Unit {0}) → Type 0
 ReadsLastTree t bound b n ls o = Then (ReadsTree t b bound) (λ _ n ls o. o ≡ take_end n ls) n ls o
 
+-- the closed tree of the refuted bound, the open one of the next, and the end, where so many nodes are done
 abbrev pub ReadsTwoTrees : TaskShape → ℕ → ℕ → Tables → ℕ → List CertLine → Outcome (Unit {0}) → Type 0
 ReadsTwoTrees t refuted nodes b n ls o =
     Then (ReadsTree t b refuted) (λ _. Then (ReadsOpenTree t b (refuted + 1)) (λ f n ls o. o ≡ take_counted_end nodes f n ls)) n ls o
@@ -108,6 +110,7 @@ abbrev pub ReadsOptimal : TaskShape → Version → ℕ → ℕ → List CertLin
 ReadsOptimal t v zero n ls o = Then (ReadsPlan t zero) (λ _ n ls o. o ≡ take_end n ls) n ls o
 ReadsOptimal t v (suc m) n ls o = Then (ReadsPlan t (suc m)) (λ _. ReadsTables t v (ReadsLastTree t m)) n ls o
 
+-- what stands behind the sizes, by the claim
 abbrev pub ReadsSections : TaskShape → Version → Claim → ℕ → List CertLine → Outcome (Unit {0}) → Type 0
 ReadsSections t v (claims.Optimal m) n ls o = ReadsOptimal t v m n ls o
 ReadsSections t v (claims.NoneUpTo m) n ls o = ReadsTables t v (ReadsLastTree t m) n ls o

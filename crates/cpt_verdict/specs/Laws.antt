@@ -47,6 +47,7 @@ IsFilledLine (lines.PairRow runs) = AreFilled runs
 IsFilledLine (lines.DistRow runs) = AreFilled runs
 IsFilledLine _ = Unit {0}
 
+-- each of the lines has values in its runs
 abbrev pub AllFilled : List CertLine → Type 0
 AllFilled [] = Unit {0}
 AllFilled (l ∷ ls) = IsFilledLine l × AllFilled ls

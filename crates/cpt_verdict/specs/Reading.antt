@@ -45,6 +45,7 @@ abbrev pub take_version : ℕ → List CertLine → Outcome Version
 take_version n (lines.First v ∷ ls) = went v ls (n + 1)
 take_version n _ = faulted n whys.Grammar
 
+-- the line of the claim
 abbrev pub take_claim : ℕ → List CertLine → Outcome Claim
 take_claim n (lines.Claimed claim ∷ ls) = went claim ls (n + 1)
 take_claim n _ = faulted n whys.Grammar
@@ -67,6 +68,7 @@ take_items (suc k) before n _ = faulted n whys.Grammar
 abbrev pub soonest : Occ
 soonest = record { act = 0; start = 0 }
 
+-- the head of a plan, and its occurrences
 abbrev pub take_plan : ℕ → List CertLine → Outcome (List Occ)
 take_plan n (lines.Plan k ∷ ls) = take_items k soonest (n + 1) ls
 take_plan n _ = faulted n whys.Grammar
@@ -76,6 +78,7 @@ abbrev pub JudgesPlan : TaskShape → ℕ → ℕ → List Occ → ℕ → List 
 JudgesPlan t m head plan n ls o =
     (IsPlanOf t m plan × (o ≡ went plan ls n)) ⊎ ((IsPlanOf t m plan → ⊥) × (o ≡ faulted head whys.Plan))
 
+-- the plan, read and judged
 abbrev pub ReadsPlan : TaskShape → ℕ → ℕ → List CertLine → Outcome (List Occ) → Type 0
 ReadsPlan t m n ls o = Then (λ n ls x. x ≡ take_plan n ls) (JudgesPlan t m n) n ls o
 
@@ -88,6 +91,7 @@ abbrev pub is_form : Version → List Run → Bool
 is_form One runs = are_alone runs
 is_form Two runs = are_runs runs
 
+-- a row in the form of its version, with so many values
 abbrev pub is_row : Version → ℕ → List Run → Bool
 is_row v k runs = is_form v runs && (length (values_of runs) == k)
 
@@ -98,6 +102,7 @@ take_pair_rows v (suc k) n (lines.PairRow runs ∷ ls) =
     if is_row v (suc k) runs then behind (λ rows. values_of runs ∷ rows) (take_pair_rows v k (n + 1) ls) else faulted n whys.Grammar
 take_pair_rows v (suc k) n _ = faulted n whys.Grammar
 
+-- the head of the pair table, and a row for each atom
 abbrev pub take_pairs : Version → ℕ → ℕ → List CertLine → Outcome (List (List Span))
 take_pairs v atoms n (lines.Pairs ∷ ls) = take_pair_rows v atoms (n + 1) ls
 take_pairs v atoms n _ = faulted n whys.Grammar
@@ -109,6 +114,7 @@ take_dist_rows v atoms (suc k) n (lines.DistRow runs ∷ ls) =
     if is_row v atoms runs then behind (λ rows. values_of runs ∷ rows) (take_dist_rows v atoms k (n + 1) ls) else faulted n whys.Grammar
 take_dist_rows v atoms (suc k) n _ = faulted n whys.Grammar
 
+-- the head of the distance table, and a row for each action
 abbrev pub take_dists : Version → ℕ → ℕ → ℕ → List CertLine → Outcome (List (List Span))
 take_dists v atoms actions n (lines.Dists ∷ ls) = take_dist_rows v atoms actions (n + 1) ls
 take_dists v atoms actions n _ = faulted n whys.Grammar
@@ -117,6 +123,7 @@ take_dists v atoms actions n _ = faulted n whys.Grammar
 abbrev pub pair_rows : PairShape → List (List Span)
 pair_rows h = map (pair_row h) (range_with_len 0 h.atoms)
 
+-- all rows of a distance table
 abbrev pub dist_rows : DistShape → List (List Span)
 dist_rows d = map (dist_row d) (range_with_len 0 d.actions)
 
@@ -126,6 +133,7 @@ pub record IsPairsOf (t : TaskShape) (rows : List (List Span)) (h : PairShape) :
   pub fits : FitsPairs t h
   pub same : rows ≡ pair_rows h
 
+-- the distance table of the task's size that has these rows
 pub record IsDistsOf (t : TaskShape) (rows : List (List Span)) (d : DistShape) : Type 0 where
   pub whole : IsWholeDists d
   pub fits : FitsDists t d
@@ -137,14 +145,17 @@ JudgesPairs t head rows n ls o =
     (h : PairShape) × IsPairsOf t rows h
     × ((IsAdmissiblePairs t h × (o ≡ went h ls n)) ⊎ ((f : PairFault) × IsPairFault t h f × (o ≡ faulted (head + 1 + f.p) whys.Pair)))
 
+-- the distance table, whose head is this line, is admissible, or the row of its least fault is at fault
 abbrev pub JudgesDists : TaskShape → PairShape → ℕ → List (List Span) → ℕ → List CertLine → Outcome DistShape → Type 0
 JudgesDists t h head rows n ls o =
     (d : DistShape) × IsDistsOf t rows d
     × ((IsAdmissibleDists t h d × (o ≡ went d ls n)) ⊎ ((f : DistFault) × IsDistFault t h d f × (o ≡ faulted (head + 1 + f.act) whys.Dist)))
 
+-- the pair table, read and judged
 abbrev pub ReadsPairs : TaskShape → Version → ℕ → List CertLine → Outcome PairShape → Type 0
 ReadsPairs t v n ls o = Then (λ n ls x. x ≡ take_pairs v (length t.atoms) n ls) (JudgesPairs t n) n ls o
 
+-- the distance table, read and judged over the pair table
 abbrev pub ReadsDists : TaskShape → Version → PairShape → ℕ → List CertLine → Outcome DistShape → Type 0
 ReadsDists t v h n ls o = Then (λ n ls x. x ≡ take_dists v (length t.atoms) (length t.actions) n ls) (JudgesDists t h n) n ls o
 
@@ -158,6 +169,7 @@ abbrev pub take_tree : ℕ → ℕ → List CertLine → Outcome (Unit {0})
 take_tree bound n (lines.Tree b ∷ ls) = if b == bound then went tt ls (n + 1) else faulted n whys.Bound
 take_tree bound n _ = faulted n whys.Grammar
 
+-- the head of a tree with open nodes: its bound is this one
 abbrev pub take_open_tree : ℕ → ℕ → List CertLine → Outcome (Unit {0})
 take_open_tree bound n (lines.OpenTree b ∷ ls) = if b == bound then went tt ls (n + 1) else faulted n whys.Bound
 take_open_tree bound n _ = faulted n whys.Grammar

@@ -34,6 +34,7 @@ ReadsParts t b mo (p ∷ ps) n ls o =
 abbrev pub still : Frame → List Decision
 still f = drop f.met f.children
 
+-- what is left of a branched node: its children still to be read
 abbrev pub part_of : Frame → Part
 part_of f = branches f.sheet (still f)
 
@@ -48,6 +49,7 @@ parts_at (Node s) ps = node s ∷ ps
 parts_at (Worked s) ps = worked s ∷ ps
 parts_at Behind ps = ps
 
+-- what is still to be read, the innermost first
 abbrev pub parts_left : Walk → List Part
 parts_left w = parts_at w.place (stacked w.past.frames.items [])
 
@@ -57,6 +59,7 @@ pub record IsFrame (t : TaskShape) (f : Frame) : Type 0 where
   pub some : still f ≢ []
   pub fit : All (Fits f.sheet) (still f)
 
+-- the sheet at the place, if there is one, is formed
 abbrev pub IsPlaceFormed : TaskShape → Place → Type 0
 IsPlaceFormed t (Node s) = IsFormed t s
 IsPlaceFormed t (Worked s) = IsFormed t s
@@ -71,6 +74,7 @@ pub record IsWalk (t : TaskShape) (w : Walk) : Type 0 where
 abbrev pub IsFewIn : ℕ → Frame → Type 0
 IsFewIn k f = length f.sheet.tokens ≤ k + 2
 
+-- the sheet at the place, if there is one, has at most so many tokens beside start and end
 abbrev pub IsFewAt : ℕ → Place → Type 0
 IsFewAt k (Node s) = length s.tokens ≤ k + 2
 IsFewAt k (Worked s) = length s.tokens ≤ k + 2
@@ -104,9 +108,11 @@ Turns t b w line (Fault why) = FailsAt t b w line why
 abbrev pub at_work : Past → Sheet → Walk
 at_work p s = record { past = p; place = Worked s }
 
+-- a walk that begins a node with this sheet
 abbrev pub at_node : Past → Sheet → Walk
 at_node p s = record { past = p; place = Node s }
 
+-- a walk whose tree is read
 abbrev pub at_end : Past → Walk
 at_end p = record { past = p; place = Behind }
 

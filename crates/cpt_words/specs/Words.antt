@@ -86,6 +86,7 @@ abbrev pub two_names : List (List ℕ) → Option (List ℕ × List ℕ)
 two_names (a ∷ b ∷ []) = if is_file_name a && is_file_name b then Some (a, b) else None
 two_names ws = None
 
+-- three names of files, and no more
 abbrev pub three_names : List (List ℕ) → Option (List ℕ × List ℕ × List ℕ)
 three_names (a ∷ b ∷ c ∷ []) = if is_file_name a && (is_file_name b && is_file_name c) then Some (a, b, c) else None
 three_names ws = None
@@ -101,6 +102,7 @@ abbrev pub solved_as : List ℕ → List ℕ → Options → Option Version → 
 solved_as a b given None = Some (solving a b (budget_of given))
 solved_as a b given (Some version) = None
 
+-- the words behind `solve`
 abbrev pub solve_in : List (List ℕ) → Option Asked
 solve_in ws = option_and_then (λ n. solved_as n.0 n.1 n.2 n.2.version) (searched_in ws)
 
