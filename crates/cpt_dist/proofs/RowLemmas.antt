@@ -9,9 +9,11 @@ use Rattle.cpt_tables.specs.Spans.{◌≤ˢ◌, ◌+ˢ◌, IsBelow}
 use Rattle.cpt_tables.specs.Shapes.{most_over}
 use Rattle.cpt_tables.proofs.SpanLemmas.{le_trans, below_more, add_mono}
 use Rattle.cpt_tables.proofs.MostLemmas.{le_over, over_le, below_over}
-use Rattle.cpt_dist.specs.Moving.{value_at, reached, IsSmall, IsNextTo, IsUnder, Falls, Moves, LowersAt, LowersFirst}
+use Rattle.cpt_tables.specs.Weights.{value_at, reached, IsSmall, IsNextTo}
+use Rattle.cpt_dist.specs.Moving.{IsUnder, Falls, Moves, LowersAt, LowersFirst}
 use Rattle.cpt_dist.specs.Rows.{row_limit, IsMetBy, IsClosed, SweepsFirst}
-use Rattle.cpt_dist.proofs.MovingLemmas.{reached_few, next_more, falls_again, falls_by, falls_at, moves_at, moves_again, still, met_at, le_at}
+use Rattle.cpt_tables.proofs.WeightLemmas.{reached_few, next_more}
+use Rattle.cpt_dist.proofs.MovingLemmas.{falls_again, falls_by, falls_at, moves_at, moves_again, still, met_at, le_at}
 
 -- within a list the default does not matter
 get_or_self : (xs : List ℕ) (k d : ℕ) → k < length xs → get_or xs k (get_or xs k d) ≡ get_or xs k d

@@ -14,9 +14,10 @@ use Rattle.cpt_tables.specs.Admissible.IsDistLimit.{at_once, later}
 use Rattle.cpt_tables.specs.Greatest.{IsGreatestDists}
 use Rattle.cpt_tables.proofs.SpanLemmas.{le_refl, le_trans, le_never, zero_le}
 use Rattle.cpt_tables.proofs.SpanLemmas as Spans
-use Rattle.cpt_dist.specs.Moving.{value_at, reached, IsUnder}
+use Rattle.cpt_tables.specs.Weights.{value_at, reached}
+use Rattle.cpt_dist.specs.Moving.{IsUnder}
 use Rattle.cpt_dist.specs.Rows.{row_limit, IsClosed, IsStart, IsRowOf, HasRow, HasRows, KeepsOthers}
-use Rattle.cpt_dist.proofs.MovingLemmas.{reached_few}
+use Rattle.cpt_tables.proofs.WeightLemmas.{reached_few}
 use Rattle.cpt_dist.proofs.RowLemmas.{limit_mono}
 
 -- a row more

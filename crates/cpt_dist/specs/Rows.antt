@@ -6,7 +6,8 @@ use Rattle.cpt_task.specs.Shape.{TaskShape}
 use Rattle.cpt_tables.specs.Spans.{◌≤ˢ◌, ◌+ˢ◌, IsFinite}
 use Rattle.cpt_tables.specs.Shapes.{PairShape, DistShape, pair_at, dist_at, most_over}
 use Rattle.cpt_tables.specs.Admissible.{IsAtOnce, nth_action}
-use Rattle.cpt_dist.specs.Moving.{value_at, Falls, Moves}
+use Rattle.cpt_tables.specs.Weights.{value_at}
+use Rattle.cpt_dist.specs.Moving.{Falls, Moves}
 
 -- when the action can end at the earliest, where its atoms hold from these values on
 abbrev pub row_limit : (ℕ → Span) → Action → Span

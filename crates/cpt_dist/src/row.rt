@@ -6,7 +6,8 @@ ghost use Rattle.cpt_task.specs.declared.span.Span.{Span};
 ghost use Rattle.cpt_task.specs.declared.task.Action.{Action};
 ghost use Rattle.cpt_tables.specs.Spans.{◌≤ˢ◌, IsBelow};
 ghost use Rattle.cpt_tables.specs.Shapes.{most_over};
-ghost use Rattle.cpt_dist.specs.Moving.{value_at, IsSmall, IsNextTo, IsUnder, Falls, Moves, LowersAt};
+ghost use Rattle.cpt_tables.specs.Weights.{value_at, IsSmall, IsNextTo};
+ghost use Rattle.cpt_dist.specs.Moving.{IsUnder, Falls, Moves, LowersAt};
 ghost use Rattle.cpt_dist.specs.Rows.{row_limit, IsMetBy, IsClosed, IsLowered};
 
 use cpt_tables::{add_spans, exceeds, greater_span};

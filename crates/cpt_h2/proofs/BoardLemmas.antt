@@ -9,9 +9,18 @@ use Rattle.cpt_tables.specs.Spans.{◌≤ˢ◌}
 use Rattle.cpt_tables.specs.Shapes.{PairShape, pair_at, pair_place, row_start, IsSamePair}
 use Rattle.cpt_tables.proofs.SpanLemmas.{le_refl, le_trans}
 use Rattle.cpt_tables.proofs.PlaceLemmas.{place_within, same_from_pair_place, row_before}
-use Rattle.cpt_h2.specs.Moving.{value_at, reached, weight, IsNextTo, IsUnder}
-use Rattle.cpt_h2.specs.Board.{BoardShape, IsUnmarked, IsGood, Spares, Goes, Drops, AllBelow, LowersPair, lowered, marked, LowersRow, LowersRows}
-use Rattle.cpt_h2.proofs.MovingLemmas.{set_small, set_more, set_le, set_lighter, under_set, next_more}
+use Rattle.cpt_tables.specs.Weights.{value_at, reached, weight, IsNextTo}
+use Rattle.cpt_h2.specs.Board.{IsUnder, BoardShape, IsUnmarked, IsGood, Spares, Goes, Drops, AllBelow, LowersPair, lowered, marked, LowersRow, LowersRows}
+use Rattle.cpt_tables.proofs.WeightLemmas.{set_small, set_more, set_le, set_lighter, next_more}
+
+-- the values stay at least those of g where one is lowered to at least that of g
+pub under_set : (g xs : List Span) (k : ℕ) (v : Span) → k < length xs → IsUnder g xs → value_at g k ≤ˢ v → IsUnder g (set xs k v)
+under_set g xs k v within under le j lt =
+    let inside : j < length xs = subst (λ n. j < n) (length-set xs k v) lt in
+    elim (cases_eq j k) [
+      | inl e ↦ subst (λ i. value_at g i ≤ˢ value_at (set xs k v) i) (sym e) (subst (λ x. value_at g k ≤ˢ x) (sym (get_or-set_same xs k v Never within)) le)
+      | inr ne ↦ subst (λ x. value_at g j ≤ˢ x) (sym (get_or-set_other xs k j v Never ne)) (under j inside)
+    ]
 
 -- there are few places
 row_start_few : (n : ℕ) → n ≤ 2048 → row_start n ≤ 8388608

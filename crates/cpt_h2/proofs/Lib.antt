@@ -1,4 +1,3 @@
-pub mod MovingLemmas
 pub mod BoardLemmas
 pub mod LimitLemmas
 pub mod RuleLemmas

@@ -8,9 +8,9 @@ use Rattle.cpt_tables.specs.Shapes.{PairShape, pair_at, pair_place, most_with, m
 use Rattle.cpt_tables.proofs.SpanLemmas.{le_trans, le_antisym, max_left, max_right, max_le, below_more, below_max}
 use Rattle.cpt_tables.proofs.MostLemmas.{le_over, over_le, below_over}
 use Rattle.cpt_tables.proofs.PlaceLemmas.{place_within, pair_exchanged}
-use Rattle.cpt_h2.specs.Moving.{reached, IsNextTo}
+use Rattle.cpt_tables.specs.Weights.{reached, IsNextTo}
 use Rattle.cpt_h2.specs.Board.{BoardShape, IsGood}
-use Rattle.cpt_h2.proofs.MovingLemmas.{reached_few}
+use Rattle.cpt_tables.proofs.WeightLemmas.{reached_few}
 use Rattle.cpt_h2.proofs.BoardLemmas.{places_few}
 
 -- within a list the default does not matter

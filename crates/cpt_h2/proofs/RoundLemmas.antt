@@ -6,8 +6,8 @@ use Rattle.cpt_task.specs.Timeline.{idle}
 use Rattle.cpt_tables.specs.Spans.{◌≤ˢ◌}
 use Rattle.cpt_tables.specs.Shapes.{PairShape, pair_at, pair_place, row_start}
 use Rattle.cpt_tables.proofs.SpanLemmas.{le_refl, le_trans}
-use Rattle.cpt_h2.specs.Moving.{value_at, weight, IsSmall, IsUnder}
-use Rattle.cpt_h2.specs.Board.{MarksShape, BoardShape, IsUnmarked, IsQuiet, IsGood, IsWithin, IsClear, Goes, Drops}
+use Rattle.cpt_tables.specs.Weights.{value_at, weight, IsSmall}
+use Rattle.cpt_h2.specs.Board.{IsUnder, MarksShape, BoardShape, IsUnmarked, IsQuiet, IsGood, IsWithin, IsClear, Goes, Drops}
 use Rattle.cpt_h2.specs.Rules.{Rule, needs_of, limit_of, IsRuleAt, action_of}
 use Rattle.cpt_h2.specs.Rules.IsRuleAt.{by_itself, with_atom, with_action}
 use Rattle.cpt_h2.specs.Rounds.{IsSettled, Works, Sinks, IsRule, MeetsAll, AllSettled, EndsRound}

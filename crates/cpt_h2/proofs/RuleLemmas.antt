@@ -11,8 +11,7 @@ use Rattle.cpt_tables.specs.Shapes.{PairShape, pair_at, pair_place, set_span_of}
 use Rattle.cpt_tables.specs.Admissible.{limit_by_one, limit_by_two}
 use Rattle.cpt_tables.proofs.SpanLemmas.{le_refl, le_trans, le_never, max_left, max_right, max_le, add_mono}
 use Rattle.cpt_tables.proofs.PlaceLemmas.{place_within}
-use Rattle.cpt_h2.specs.Moving.{IsUnder}
-use Rattle.cpt_h2.specs.Board.{MarksShape, BoardShape, IsUnmarked, IsQuiet, IsGood, IsWithin, Drops, AllBelow}
+use Rattle.cpt_h2.specs.Board.{IsUnder, MarksShape, BoardShape, IsUnmarked, IsQuiet, IsGood, IsWithin, Drops, AllBelow}
 use Rattle.cpt_h2.specs.Rules.{Rule, needs_of, limit_of, Concerns, IsMet, IsUpTo, IsRuleAt, action_of}
 use Rattle.cpt_h2.specs.Rules.Rule.{one, beside, two}
 use Rattle.cpt_h2.specs.Rules.IsRuleAt.{by_itself, with_atom, with_action}

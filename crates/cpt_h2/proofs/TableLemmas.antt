@@ -16,13 +16,13 @@ use Rattle.cpt_tables.specs.Greatest.{IsGreatestPairs}
 use Rattle.cpt_tables.proofs.SpanLemmas.{le_refl, le_trans, le_never, max_left, max_right, max_le, add_mono}
 use Rattle.cpt_tables.proofs.SpanLemmas as Spans
 use Rattle.cpt_tables.proofs.PlaceLemmas.{place_within, pair_exchanged}
-use Rattle.cpt_h2.specs.Moving.{value_at, reached, IsSmall, IsNextTo, IsUnder}
-use Rattle.cpt_h2.specs.Board.{BoardShape, IsGood, IsWithin, Drops, AllBelow}
+use Rattle.cpt_tables.specs.Weights.{value_at, reached, IsSmall, IsNextTo}
+use Rattle.cpt_h2.specs.Board.{IsUnder, BoardShape, IsGood, IsWithin, Drops, AllBelow}
 use Rattle.cpt_h2.specs.Rules.{Concerns, IsMet, IsRuleAt, action_of}
 use Rattle.cpt_h2.specs.Rules.Rule.{one, beside, two}
 use Rattle.cpt_h2.specs.Rules.IsRuleAt.{by_itself, with_atom, with_action}
 use Rattle.cpt_h2.specs.Rounds.{MeetsAll, Relaxes}
-use Rattle.cpt_h2.proofs.MovingLemmas.{reached_few}
+use Rattle.cpt_tables.proofs.WeightLemmas.{reached_few}
 use Rattle.cpt_h2.proofs.BoardLemmas.{places_few}
 use Rattle.cpt_h2.proofs.LimitLemmas.{le_across, across_le, all_of}
 

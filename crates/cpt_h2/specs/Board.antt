@@ -4,7 +4,11 @@ use Rattle.cpt_task.specs.declared.task.Action.{Action}
 use Rattle.cpt_task.specs.Shape.{HasAtomsBelow, IsDuration}
 use Rattle.cpt_tables.specs.Spans.{◌≤ˢ◌, ◌<ˢ◌}
 use Rattle.cpt_tables.specs.Shapes.{PairShape, pair_at, row_start, with_pair}
-use Rattle.cpt_h2.specs.Moving.{value_at, reached, weight, IsSmall, IsUnder}
+use Rattle.cpt_tables.specs.Weights.{value_at, reached, weight, IsSmall}
+
+-- the values of g are at most those of the list, in every place
+abbrev pub IsUnder : List Span → List Span → Type 0
+IsUnder g xs = (k : ℕ) → k < length xs → value_at g k ≤ˢ value_at xs k
 
 -- which atoms are marked: all, or those that the list says
 pub record MarksShape : Type 0 where

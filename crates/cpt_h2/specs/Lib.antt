@@ -1,4 +1,3 @@
 pub mod Board
-pub mod Moving
 pub mod Rules
 pub mod Rounds

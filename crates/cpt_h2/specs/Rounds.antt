@@ -2,8 +2,8 @@ use Rattle.std.specs.Prelude.{◌≡◌, ℕ, ◌+◌, ◌<◌, ◌⊎◌, false
 use Rattle.cpt_task.specs.declared.task.Action.{Action}
 use Rattle.cpt_tables.specs.Spans.{◌≤ˢ◌}
 use Rattle.cpt_tables.specs.Shapes.{PairShape, pair_at}
-use Rattle.cpt_h2.specs.Moving.{value_at, weight, IsUnder}
-use Rattle.cpt_h2.specs.Board.{MarksShape, BoardShape, IsQuiet, IsGood, Drops}
+use Rattle.cpt_tables.specs.Weights.{value_at, weight}
+use Rattle.cpt_h2.specs.Board.{IsUnder, MarksShape, BoardShape, IsQuiet, IsGood, Drops}
 use Rattle.cpt_h2.specs.Rules.{Rule, needs_of, limit_of, Concerns, IsMet, IsUpTo, IsRuleAt}
 
 -- no value is above the limit that the rule had in table h, unless what the limit is made of has changed

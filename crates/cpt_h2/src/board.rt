@@ -3,7 +3,7 @@
 ghost use Rattle.std.specs.Prelude.{◌≡◌, ◌<◌, ◌≤◌, false, length, All};
 ghost use Rattle.cpt_tables.specs.Spans.{◌≤ˢ◌};
 ghost use Rattle.cpt_tables.specs.Shapes.{pair_at};
-ghost use Rattle.cpt_h2.specs.Moving.{IsNextTo};
+ghost use Rattle.cpt_tables.specs.Weights.{IsNextTo};
 ghost use Rattle.cpt_h2.specs.Board.{MarksShape, BoardShape, IsGood, IsClear, LowersPair, Drops, AllBelow};
 
 use crate::marks::Marks;

@@ -6,7 +6,7 @@ ghost use Rattle.cpt_task.specs.declared.span.Span.{Span};
 ghost use Rattle.cpt_tables.specs.Spans.{◌+ˢ◌, IsBelow};
 ghost use Rattle.cpt_tables.specs.Shapes.{set_span_of};
 ghost use Rattle.cpt_tables.specs.Admissible.{limit_by_one, limit_beside, limit_by_two};
-ghost use Rattle.cpt_h2.specs.Moving.{IsNextTo, reached};
+ghost use Rattle.cpt_tables.specs.Weights.{IsNextTo, reached};
 ghost use Rattle.cpt_h2.specs.Board.{IsGood, IsWithin};
 
 use crate::board::Board;

@@ -1,8 +1,6 @@
-pub mod SetLemmas
-pub mod SpanLemmas
-pub mod TaskLemmas
 pub mod AtomScans
 pub mod DistBounds
+pub mod GoalLemmas
 pub mod GrowLemmas
 pub mod LessenLemmas
 pub mod LimitLemmas
@@ -13,5 +11,8 @@ pub mod PairScans
 pub mod PlaceLemmas
 pub mod PlanFacts
 pub mod ScanLemmas
-pub mod GoalLemmas
+pub mod SetLemmas
+pub mod SpanLemmas
+pub mod TaskLemmas
 pub mod UniqueLemmas
+pub mod WeightLemmas

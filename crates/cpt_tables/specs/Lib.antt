@@ -6,3 +6,4 @@ pub mod Serving
 pub mod Shapes
 pub mod Spans
 pub mod Unique
+pub mod Weights

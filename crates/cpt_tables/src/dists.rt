@@ -11,9 +11,9 @@ ghost use Rattle.cpt_tables.specs.Serving.{IsServed, IsReached};
 
 use crate::dist_table::DistTable;
 use crate::faults::DistFault;
-use crate::limits::{after, has, served_action};
 use crate::pair_table::PairTable;
 use crate::sets::dist_to;
+use crate::sides::{after, has, served_action};
 use crate::spans::{exceeds, lesser_span};
 use cpt_task::{Action, Span, Task};
 

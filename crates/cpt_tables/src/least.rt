@@ -6,9 +6,9 @@ ghost use Rattle.cpt_tables.specs.Admissible.{nth_action, IsPairLimit, IsLeast, 
 ghost use Rattle.cpt_tables.specs.Scans.{Lessens, IsOneHere, IsBesideHere, AddBoth, AddApart, IsTwoHere, IsPartnerHere, IsActionHere};
 ghost use Rattle.cpt_tables.specs.Serving.{IsServed};
 
-use crate::limits::{has, leaves, limit_of_one, limit_of_two, limit_with, served_action};
 use crate::pair_table::PairTable;
 use crate::sets::set_span;
+use crate::sides::{has, leaves, limit_of_one, limit_of_two, limit_with, served_action};
 use crate::spans::lesser_span;
 use cpt_task::{Action, Span, Task, interfere};
 

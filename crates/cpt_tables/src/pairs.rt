@@ -10,10 +10,10 @@ ghost use Rattle.cpt_tables.specs.Serving.{IsServed};
 
 use crate::faults::PairFault;
 use crate::least::least_limit;
-use crate::limits::{leaves, limit_of_one, limit_of_two, limit_with, served_action};
 use crate::pair_table::PairTable;
 use crate::search::{Pair, check_product, check_row};
 use crate::sets::set_span;
+use crate::sides::{leaves, limit_of_one, limit_of_two, limit_with, served_action};
 use cpt_task::{Action, Span, Task, interfere};
 
 fn check_beside_one(

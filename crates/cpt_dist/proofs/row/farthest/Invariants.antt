@@ -1,7 +1,7 @@
 use Rattle.std.proofs.Common.{◌≡◌, drop}
 use Rattle.cpt_tables.specs.Spans.{span_max}
 use Rattle.cpt_tables.specs.Shapes.{most_over}
-use Rattle.cpt_dist.specs.Moving.{value_at}
+use Rattle.cpt_tables.specs.Weights.{value_at}
 use Rattle.cpt_dist.proofs.row.farthest.Given as goal
 
 abbrev pub invariant-loop-p : goal.invariant-loop-p

@@ -1,5 +1,6 @@
 use Rattle.std.proofs.Common.{◌≡◌, ◌+◌, cond, false}
-use Rattle.cpt_dist.specs.Moving.{value_at, weight, Falls}
+use Rattle.cpt_tables.specs.Weights.{value_at, weight}
+use Rattle.cpt_dist.specs.Moving.{Falls}
 use Rattle.cpt_dist.specs.Rows.{IsClosed}
 use Rattle.cpt_dist.proofs.row.lower.Given as goal
 

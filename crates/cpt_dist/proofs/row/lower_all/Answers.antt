@@ -1,7 +1,7 @@
 use Rattle.std.proofs.Common.{refl, arith, All, subst}
 use Rattle.std.proofs.lemmas.List.{take_all}
 use Rattle.cpt_tables.specs.Spans.{◌≤ˢ◌}
-use Rattle.cpt_dist.specs.Moving.{value_at}
+use Rattle.cpt_tables.specs.Weights.{value_at}
 use Rattle.cpt_dist.proofs.MovingLemmas.{falls_same}
 use Rattle.cpt_dist.proofs.RowLemmas.{lowers_more}
 use Rattle.cpt_dist.proofs.row.lower_all.Goals as goal

@@ -2,7 +2,7 @@ use Rattle.std.proofs.Common.{refl, arith, All, subst, sym, length}
 use Rattle.std.proofs.lemmas.List.{take_all}
 use Rattle.cpt_task.specs.declared.task.Action.{Action}
 use Rattle.cpt_task.specs.Shape.{HasAtomsBelow, IsDuration}
-use Rattle.cpt_dist.specs.Moving.{value_at}
+use Rattle.cpt_tables.specs.Weights.{value_at}
 use Rattle.cpt_dist.specs.Rows.{IsMetBy, IsClosed}
 use Rattle.cpt_dist.proofs.MovingLemmas.{falls_same}
 use Rattle.cpt_dist.proofs.RowLemmas.{sweeps_more, closed_by_sweep}

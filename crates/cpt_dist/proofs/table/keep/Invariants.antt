@@ -1,6 +1,6 @@
 use Rattle.std.proofs.Common.{ℕ, ◌<◌, ◌≡◌}
 use Rattle.cpt_tables.specs.Shapes.{dist_at}
-use Rattle.cpt_dist.specs.Moving.{value_at}
+use Rattle.cpt_tables.specs.Weights.{value_at}
 use Rattle.cpt_dist.specs.Rows.{KeepsOthers}
 use Rattle.cpt_dist.proofs.table.keep.Given as goal
 

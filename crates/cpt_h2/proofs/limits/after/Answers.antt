@@ -1,5 +1,5 @@
 use Rattle.cpt_h2.proofs.LimitLemmas.{small_fits, next_sum}
-use Rattle.cpt_h2.specs.Moving.{reached}
+use Rattle.cpt_tables.specs.Weights.{reached}
 use Rattle.cpt_h2.proofs.limits.after.Goals as goal
 
 pub add_spans-requires-clause-first : goal.add_spans-requires-clause-first

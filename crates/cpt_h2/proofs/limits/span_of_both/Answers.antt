@@ -1,7 +1,7 @@
 use Rattle.std.proofs.Common.{◌++◌, ◌+◌, ◌*◌, All, ◌<◌, sym, subst}
 use Rattle.std.proofs.lemmas.List.Elements.{All-append}
 use Rattle.cpt_tables.specs.Spans.{IsBelow}
-use Rattle.cpt_h2.specs.Moving.{reached}
+use Rattle.cpt_tables.specs.Weights.{reached}
 use Rattle.cpt_h2.proofs.LimitLemmas.{across_small, span_both}
 use Rattle.cpt_h2.proofs.limits.span_of_both.Goals as goal
 

@@ -1,5 +1,5 @@
 use Rattle.std.proofs.Common.{◌≡◌, ◌+◌, cond, false, length}
-use Rattle.cpt_h2.specs.Moving.{weight}
+use Rattle.cpt_tables.specs.Weights.{weight}
 use Rattle.cpt_h2.specs.Rounds.{Sinks, MeetsAll, AllSettled}
 use Rattle.cpt_h2.proofs.table.relax.Given as goal
 

@@ -1,13 +1,13 @@
 -- laws of lowering values of a list
 use Rattle.std.proofs.Common.{◌≡◌, ℕ, zero, suc, ◌+◌, ◌*◌, ◌<◌, ◌≤◌, inl, inr, List, [], ◌∷◌, length, get_or, set, All, sym, subst, arith}
 use Rattle.std.proofs.lemmas.Bool.{cases_eq}
-use Rattle.std.proofs.lemmas.List.{get_or-set_other, get_or-set_same, length-set}
+use Rattle.std.proofs.lemmas.List.{get_or-set_other, get_or-set_same}
 use Rattle.std.proofs.lemmas.List.Elements.{All-set, All-weaker}
 use Rattle.cpt_task.specs.declared.span.Span.{Span}
 use Rattle.cpt_task.specs.declared.span.Span.TheVariants.{At, Never}
 use Rattle.cpt_tables.specs.Spans.{◌≤ˢ◌, ◌<ˢ◌, IsBelow}
+use Rattle.cpt_tables.specs.Weights.{value_at, total, one_for, reached, weight_of, weight, IsSmall, IsNextTo}
 use Rattle.cpt_tables.proofs.SpanLemmas.{le_refl, below_more}
-use Rattle.cpt_h2.specs.Moving.{value_at, total, one_for, reached, weight_of, weight, IsSmall, IsNextTo, IsUnder}
 
 pub total_set : (f : Span → ℕ) (xs : List Span) (k : ℕ) (v d : Span) → k < length xs → total f (set xs k v) + f (get_or xs k d) ≡ total f xs + f v
 total_set f [] k v d lt = absurd (omega arith)
@@ -67,14 +67,6 @@ set_lighter xs k v few within lt next =
     let all : weight (set xs k v) + weight_of (value_at xs k) ≡ weight xs + weight_of v = total_set weight_of xs k v Never within in
     let less : weight_of v < weight_of (value_at xs k) = lesser_weighs v (value_at xs k) (100000 * reached xs + 100001) lt next (omega (arith, count, few)) in
     omega (arith, all, less)
-
-pub under_set : (g xs : List Span) (k : ℕ) (v : Span) → k < length xs → IsUnder g xs → value_at g k ≤ˢ v → IsUnder g (set xs k v)
-under_set g xs k v within under le j lt =
-    let inside : j < length xs = subst (λ n. j < n) (length-set xs k v) lt in
-    elim (cases_eq j k) [
-      | inl e ↦ subst (λ i. value_at g i ≤ˢ value_at (set xs k v) i) (sym e) (subst (λ x. value_at g k ≤ˢ x) (sym (get_or-set_same xs k v Never within)) le)
-      | inr ne ↦ subst (λ x. value_at g j ≤ˢ x) (sym (get_or-set_other xs k j v Never ne)) (under j inside)
-    ]
 
 -- at another place nothing has changed, and at this one the value is v
 pub set_le : (xs : List Span) (k j : ℕ) (v : Span) → k < length xs → v <ˢ value_at xs k → value_at (set xs k v) j ≤ˢ value_at xs j

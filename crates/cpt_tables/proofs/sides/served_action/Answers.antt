@@ -4,7 +4,7 @@ use Rattle.cpt_task.specs.Timeline.{idle}
 use Rattle.cpt_tables.specs.Admissible.{nth_action}
 use Rattle.cpt_tables.specs.Serving.{IsServed}
 use Rattle.cpt_tables.proofs.TaskLemmas.{nth_served}
-use Rattle.cpt_tables.proofs.limits.served_action.Goals as goal
+use Rattle.cpt_tables.proofs.sides.served_action.Goals as goal
 
 pub returns-clause-served : goal.returns-clause-served
 returns-clause-served c =

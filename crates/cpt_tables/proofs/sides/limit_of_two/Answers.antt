@@ -4,7 +4,7 @@ use Rattle.cpt_tables.specs.Spans.{IsBelow, ◌+ˢ◌, span_max}
 use Rattle.cpt_tables.specs.Shapes.{set_span_of, most_across}
 use Rattle.cpt_tables.specs.Admissible.{limit_by_one}
 use Rattle.cpt_tables.proofs.SetLemmas.{own_small, both_small, set_append}
-use Rattle.cpt_tables.proofs.limits.limit_of_two.Goals as goal
+use Rattle.cpt_tables.proofs.sides.limit_of_two.Goals as goal
 
 pub after-together-requires-clause-small : goal.after-together-requires-clause-small
 after-together-requires-clause-small c =

@@ -2,7 +2,7 @@ use Rattle.std.proofs.Common.{◌≡◌, ◌∙◌, sym, subst, ap}
 use Rattle.cpt_tables.specs.Spans.{IsBelow}
 use Rattle.cpt_tables.specs.Shapes.{set_span_of}
 use Rattle.cpt_tables.proofs.SetLemmas.{own_small}
-use Rattle.cpt_tables.proofs.limits.limit_of_one.Goals as goal
+use Rattle.cpt_tables.proofs.sides.limit_of_one.Goals as goal
 
 pub after-requires-clause-small : goal.after-requires-clause-small
 after-requires-clause-small c =

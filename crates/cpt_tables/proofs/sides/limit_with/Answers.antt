@@ -3,7 +3,7 @@ use Rattle.cpt_task.specs.declared.span.Span.TheVariants.{At}
 use Rattle.cpt_tables.specs.Spans.{IsBelow, ◌+ˢ◌, span_max}
 use Rattle.cpt_tables.specs.Shapes.{set_span_of, most_with, pair_at}
 use Rattle.cpt_tables.proofs.SetLemmas.{beside_small, set_push}
-use Rattle.cpt_tables.proofs.limits.limit_with.Goals as goal
+use Rattle.cpt_tables.proofs.sides.limit_with.Goals as goal
 
 pub after-requires-clause-small : goal.after-requires-clause-small
 after-requires-clause-small c =

@@ -1,7 +1,7 @@
-use Rattle.std.specs.Prelude.{ℕ, ◌+◌, ◌*◌, ◌<◌, List, [], ◌∷◌, length, All, slice_index_or}
+use Rattle.std.specs.Prelude.{ℕ, ◌+◌, ◌*◌, List, [], ◌∷◌, All, slice_index_or}
 use Rattle.cpt_task.specs.declared.span.Span.{Span}
 use Rattle.cpt_task.specs.declared.span.Span.TheVariants.{At, Never}
-use Rattle.cpt_tables.specs.Spans.{◌≤ˢ◌, IsBelow}
+use Rattle.cpt_tables.specs.Spans.{IsBelow}
 
 -- the value at a place
 abbrev pub value_at : List Span → ℕ → Span
@@ -37,7 +37,3 @@ IsSmall xs = All (IsBelow (100000 * reached xs + 1)) xs
 -- one duration more than a value of the list can be
 abbrev pub IsNextTo : List Span → Span → Type 0
 IsNextTo xs v = IsBelow (100000 * reached xs + 100001) v
-
--- g is at most the list in every place
-abbrev pub IsUnder : List Span → List Span → Type 0
-IsUnder g xs = (k : ℕ) → k < length xs → value_at g k ≤ˢ value_at xs k
