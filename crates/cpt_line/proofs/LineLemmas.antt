@@ -14,10 +14,11 @@ digit_more bytes i lt h before =
     let k : digit_count (drop i bytes) ≡ digit_count (drop (i + 1) bytes) + 1 = ap digit_count e ∙ counted (get_or bytes i 0) (drop (i + 1) bytes) h in
     omega (arith, k, before)
 
-capped_step : (value n d : ℕ) → n ≡ min value 1000000001 → min (n * 10 + d) 1000000001 ≡ min (value * 10 + d) 1000000001
-capped_step value n d h = grind arith
+capped_step : (most value n d : ℕ) → n ≡ min value most → min (n * 10 + d) most ≡ min (value * 10 + d) most
+capped_step most value n d h = grind arith
 
--- one more digit of a number that stops at 1,000,000,001
-pub number_more : (digits : List ℕ) (i n d : ℕ) → i < length digits → d ≡ digit_value (get_or digits i 0) → n ≡ min (digits_value 10 (take i digits)) 1000000001 → min (n * 10 + d) 1000000001 ≡ min (digits_value 10 (take (i + 1) digits)) 1000000001
-number_more digits i n d lt same h =
-    rw (digits_value_more 10 digits i lt, ← same) (capped_step (digits_value 10 (take i digits)) n d h)
+-- one more digit of a number that stops at the most
+pub number_more : (most : ℕ) (digits : List ℕ) (i n d : ℕ) → i < length digits → d ≡ digit_value (get_or digits i 0) → n ≡ min (digits_value 10 (take i digits)) most →
+    min (n * 10 + d) most ≡ min (digits_value 10 (take (i + 1) digits)) most
+number_more most digits i n d lt same h =
+    rw (digits_value_more 10 digits i lt, ← same) (capped_step most (digits_value 10 (take i digits)) n d h)

@@ -6,5 +6,5 @@ mod names;
 mod numbers;
 
 pub use line::first_line;
-pub use names::is_spelled_name;
-pub use numbers::{count_digits, number_of, plain_number, push_decimal};
+pub use names::{is_spelled_name, is_word_byte};
+pub use numbers::{capped_number, count_digits, plain_number, push_decimal};

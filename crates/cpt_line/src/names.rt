@@ -13,7 +13,8 @@ pub fn is_spelled_name(bytes: &[u8]) -> bool
     }
 }
 
-fn is_word_byte(b: u8) -> bool
+/// Whether words have the byte: it is printable, no upper-case letter, no parenthesis and no semicolon.
+pub fn is_word_byte(b: u8) -> bool
     ensures { result ≡ word_byte b }
 {
     matches!(b, 0x21..=0x7e) && !matches!(b, b'A'..=b'Z') && b != b'(' && b != b')' && b != b';'

@@ -22,14 +22,15 @@ pub fn count_digits(bytes: &[u8]) -> usize
     bytes.len()
 }
 
-/// The number that digits stand for, and 1,000,000,001 where it is above 1,000,000,000.
-pub fn number_of(digits: &[u8]) -> u64
-    requires { All IsAsciiDigit digits.now }
-    ensures { result ≡ min (digits_value 10 digits.now) 1000000001 }
+/// The number that digits stand for, and `most` where it is above that.
+pub fn capped_number(digits: &[u8], most: u64) -> u64
+    requires digits { All IsAsciiDigit digits.now }
+    requires most { most ≤ 4294967296 }
+    ensures { result ≡ min (digits_value 10 digits.now) most }
 {
     let mut number = 0u64;
     for b in digits {
-        number = (number * 10 + u64::from(*b - b'0')).min(1_000_000_001);
+        number = (number * 10 + u64::from(*b - b'0')).min(most);
     }
     number
 }
@@ -44,7 +45,7 @@ pub fn plain_number(bytes: &[u8]) -> Option<(u64, &[u8])>
     if count == 0 || (count != 1 && bytes.starts_with(b"0")) {
         return None;
     }
-    Some((number_of(&bytes[..count]), &bytes[count..]))
+    Some((capped_number(&bytes[..count], 1_000_000_001), &bytes[count..]))
 }
 
 /// Appends the number in decimal digits, without a leading zero. After an `Err` the text is unchanged.

@@ -1,15 +1,13 @@
 //! The kinds of words.
 
-ghost use Rattle.std.specs.Prelude.{◌≡◌, ◌==◌, min, All};
+ghost use Rattle.std.specs.Prelude.{◌≡◌, ◌==◌};
 ghost use Rattle.std.specs.List.{list_all};
-ghost use Rattle.std.specs.Char.{IsAsciiDigit};
 ghost use Rattle.std.specs.Str.{bytes_eq};
-ghost use Rattle.std.specs.Str.Parse.{digits_value};
 ghost use Rattle.cpt_line.specs.Names.{word_byte};
 ghost use Rattle.cpt_pddl.specs.Words.{head_of, is_fraction, is_name, is_numeric, is_variable, number_in};
 
 use crate::fault::Feature;
-use cpt_line::count_digits;
+use cpt_line::{capped_number, count_digits, is_word_byte};
 
 /// What a word says where it begins a condition, an effect or a goal.
 #[derive(Clone, Copy)]
@@ -37,13 +35,6 @@ pub fn is_word(bytes: &[u8], word: &str) -> bool
     ensures { result ≡ bytes_eq bytes.now word.now }
 {
     bytes == word.as_bytes()
-}
-
-/// Whether words have the byte: it is printable, no upper-case letter, no parenthesis and no semicolon.
-fn is_word_byte(b: u8) -> bool
-    ensures { result ≡ word_byte b }
-{
-    (b'!'..=b'~').contains(&b) && !b.is_ascii_uppercase() && b != b'(' && b != b')' && b != b';'
 }
 
 fn all_of_words(bytes: &[u8]) -> bool
@@ -88,17 +79,6 @@ fn is_fraction(bytes: &[u8]) -> bool
     }
 }
 
-fn capped_number(digits: &[u8]) -> u64
-    requires { All IsAsciiDigit digits.now }
-    ensures { result ≡ min (digits_value 10 digits.now) 4294967296 }
-{
-    let mut number = 0u64;
-    for b in digits {
-        number = (number * 10 + u64::from(*b - b'0')).min(4_294_967_296);
-    }
-    number
-}
-
 /// The number that the word stands for: digits, and perhaps a point and zeros. One above 4,294,967,295 counts as
 /// 4,294,967,296.
 #[tactic(auto, unfolding(crate::specs::Words::number_in))]
@@ -110,7 +90,7 @@ pub fn number_in(bytes: &[u8]) -> Option<u64>
         return None;
     }
     if is_fraction(&bytes[count..]) {
-        Some(capped_number(&bytes[..count]))
+        Some(capped_number(&bytes[..count], 4_294_967_296))
     } else {
         None
     }

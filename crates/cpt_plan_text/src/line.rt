@@ -1,14 +1,11 @@
 //! What one line of a plan text says.
 
-ghost use Rattle.std.specs.Prelude.{◌≡◌, ◌≤◌, ◌++◌, ◌∷◌, [], false, length, take, drop, min, All, Some, None, MatchOption, OnOk};
-ghost use Rattle.std.specs.Char.{IsAsciiDigit};
-ghost use Rattle.std.specs.Str.Parse.{digits_value};
-ghost use Rattle.cpt_line.specs.Names.{word_byte};
+ghost use Rattle.std.specs.Prelude.{◌≡◌, ◌≤◌, ◌++◌, ◌∷◌, [], false, length, take, drop, Some, None, MatchOption, OnOk};
 ghost use Rattle.cpt_plan_text.specs.declared.line.LineError.TheVariants.{Memory};
 ghost use Rattle.cpt_plan_text.specs.Grammar.{after_byte, after_fraction, after_zeros, bracketed, duration_in, entry_in, is_blank, is_end, line_in, lower, name_in, name_rest, number_in, prefixed, skip_blanks, spaced, words_in, zero_count};
 ghost use Rattle.cpt_plan_text.specs.Parsing.{Parses};
 
-use cpt_line::count_digits;
+use cpt_line::{capped_number, count_digits, is_word_byte};
 use cpt_task::{List, Name};
 use std::alloc::{AllocError, AllocFailed, Global};
 
@@ -120,17 +117,6 @@ fn after_fraction(bytes: &[u8]) -> Option<&[u8]>
     }
 }
 
-fn capped_number(digits: &[u8]) -> u64
-    requires { All IsAsciiDigit digits.now }
-    ensures { result ≡ min (digits_value 10 digits.now) 4294967296 }
-{
-    let mut number = 0u64;
-    for b in digits {
-        number = (number * 10 + u64::from(*b - b'0')).min(4_294_967_296);
-    }
-    number
-}
-
 /// The number at the front, and what follows it.
 #[tactic(auto, unfolding(crate::specs::Grammar::number_in))]
 fn number_of(bytes: &[u8]) -> Option<(u64, &[u8])>
@@ -141,19 +127,13 @@ fn number_of(bytes: &[u8]) -> Option<(u64, &[u8])>
         return None;
     }
     let rest = after_fraction(&bytes[count..])?;
-    Some((capped_number(&bytes[..count]), rest))
+    Some((capped_number(&bytes[..count], 4_294_967_296), rest))
 }
 
 fn lower(b: u8) -> u8
     ensures { result ≡ lower b }
 {
     if b.is_ascii_uppercase() { b + 32 } else { b }
-}
-
-fn is_word_byte(b: u8) -> bool
-    ensures { result ≡ word_byte b }
-{
-    matches!(b, 0x21..=0x7e) && !matches!(b, b'A'..=b'Z') && b != b'(' && b != b')' && b != b';'
 }
 
 fn push_spaced(name: &mut Vec<u8>, gap: bool, b: u8) -> Result<(), AllocError>
