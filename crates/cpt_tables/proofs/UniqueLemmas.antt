@@ -1,5 +1,5 @@
 -- a task has one pair of best tables
-use Rattle.std.proofs.Common.{◌≡◌, ℕ, zero, suc, ◌+◌, ◌-◌, ◌*◌, ◌<◌, ◌≤◌, ◌⊎◌, max, min, inl, inr, List, length, get_or, refl, sym, ap, subst, ◌∙◌, arith}
+use Rattle.std.proofs.Common.{◌≡◌, ℕ, zero, suc, ◌+◌, ◌-◌, ◌*◌, ◌<◌, ◌≤◌, ◌⊎◌, max, min, inl, inr, List, length, get_or, sym, ap, subst, ◌∙◌, arith}
 use Rattle.std.proofs.Math.Nat.{suc-mul}
 use Rattle.std.proofs.lemmas.List.{get_or_default, same_lists}
 use Rattle.cpt_task.specs.declared.span.Span.{Span}
@@ -7,8 +7,8 @@ use Rattle.cpt_task.specs.declared.span.Span.TheVariants.{Never}
 use Rattle.cpt_task.specs.Shape.{TaskShape}
 use Rattle.cpt_tables.specs.declared.tables.Tables.{Tables}
 use Rattle.cpt_tables.specs.Shapes.{PairShape, DistShape, IsWholePairs, IsWholeDists, row_start, pair_place, pair_at, dist_at}
-use Rattle.cpt_tables.specs.Greatest.{IsGreatestPairs, IsGreatestDists, IsBest}
-use Rattle.cpt_tables.specs.Unique.{HasSizes, OneBest}
+use Rattle.cpt_tables.specs.Greatest.{IsGreatestPairs, IsGreatestDists}
+use Rattle.cpt_tables.specs.Unique.{OneBest}
 use Rattle.cpt_tables.proofs.PlaceLemmas.{row_next}
 use Rattle.cpt_tables.proofs.SpanLemmas.{le_antisym}
 

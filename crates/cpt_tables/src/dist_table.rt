@@ -1,5 +1,6 @@
 //! Tables over actions and atoms.
 
+ghost use Rattle.cpt_task.specs.declared.limits.TheConstants.{ACTION_LIMIT, ATOM_LIMIT};
 ghost use Rattle.std.specs.Prelude.{◌≡◌, ◌+◌, ◌*◌, ◌<◌, ◌≤◌, IfOk};
 ghost use Rattle.cpt_tables.specs.Spans.{IsBelow};
 ghost use Rattle.cpt_tables.specs.Shapes.{dist_at, dists_of, with_dist, SetsDist, IsFilledDists, IsSmallDists, IsWholeDists};
@@ -17,6 +18,7 @@ pub struct DistTable {
 }
 
 impl Model for DistTable {
+    ghost use Rattle.cpt_task.specs.declared.limits.TheConstants.{ACTION_LIMIT, ATOM_LIMIT};
     ghost use Rattle.std.specs.Prelude.{◌≡◌, ◌≤◌, ◌*◌, length};
     ghost use Rattle.cpt_tables.specs.Shapes.{DistShape};
 
@@ -24,14 +26,14 @@ impl Model for DistTable {
 
     ghost view = { λ t. record { actions = t.actions; atoms = t.atoms; values = t.values.items } };
 
-    ghost invariant = { λ t. (length t.values.items ≡ t.actions * t.atoms) × (t.actions ≤ 4096) × (t.atoms ≤ 2048) };
+    ghost invariant = { λ t. (length t.values.items ≡ t.actions * t.atoms) × (t.actions ≤ ACTION_LIMIT) × (t.atoms ≤ ATOM_LIMIT) };
 }
 
 impl DistTable {
     /// A table over so many actions and atoms with this value everywhere.
     pub fn filled(alloc: Global, actions: u32, atoms: u32, value: Span) -> Result<DistTable, Memory>
-        requires actions { actions ≤ 4096 }
-        requires atoms { atoms ≤ 2048 }
+        requires actions { actions ≤ ACTION_LIMIT }
+        requires atoms { atoms ≤ ATOM_LIMIT }
         ensures table { IfOk result (λ table. table ≡ dists_of actions atoms value) }
         ensures filled { IfOk result (λ table. IsFilledDists table value) }
         ensures small { IfOk result (λ table. IsBelow 1000000000000000 value → IsSmallDists table) }
@@ -48,7 +50,7 @@ impl DistTable {
     /// The number of actions.
     pub fn actions(&self) -> u32
         ensures value { result ≡ self.now.actions }
-        ensures few { result ≤ 4096 }
+        ensures few { result ≤ ACTION_LIMIT }
     {
         self.actions
     }
@@ -56,7 +58,7 @@ impl DistTable {
     /// The number of atoms.
     pub fn atoms(&self) -> u32
         ensures value { result ≡ self.now.atoms }
-        ensures few { result ≤ 2048 }
+        ensures few { result ≤ ATOM_LIMIT }
         ensures whole { IsWholeDists self.now }
     {
         self.atoms

@@ -1,5 +1,6 @@
 //! Tables over pairs of atoms.
 
+ghost use Rattle.cpt_task.specs.declared.limits.TheConstants.{ATOM_LIMIT};
 ghost use Rattle.std.specs.Prelude.{◌≡◌, ◌<◌, ◌≤◌, IfOk};
 ghost use Rattle.cpt_tables.specs.Spans.{IsBelow};
 ghost use Rattle.cpt_tables.specs.Shapes.{pair_at, pair_place, pairs_of, with_pair, SetsPair, IsFilledPairs, IsSmallPairs, IsWholePairs};
@@ -16,6 +17,7 @@ pub struct PairTable {
 }
 
 impl Model for PairTable {
+    ghost use Rattle.cpt_task.specs.declared.limits.TheConstants.{ATOM_LIMIT};
     ghost use Rattle.std.specs.Prelude.{◌≡◌, ◌≤◌, length};
     ghost use Rattle.cpt_tables.specs.Shapes.{PairShape, row_start};
 
@@ -23,13 +25,13 @@ impl Model for PairTable {
 
     ghost view = { λ t. record { atoms = t.atoms; values = t.values.items } };
 
-    ghost invariant = { λ t. (length t.values.items ≡ row_start t.atoms) × (t.atoms ≤ 2048) };
+    ghost invariant = { λ t. (length t.values.items ≡ row_start t.atoms) × (t.atoms ≤ ATOM_LIMIT) };
 }
 
 /// Where the value of two atoms stands: each row has the pairs of an atom with the atoms up to it.
 fn place_of(p: u32, q: u32) -> usize
-    requires first { p < 2048 }
-    requires second { q < 2048 }
+    requires first { p < ATOM_LIMIT }
+    requires second { q < ATOM_LIMIT }
     ensures { result ≡ pair_place p q }
 {
     let row = p.max(q) as usize;
@@ -39,7 +41,7 @@ fn place_of(p: u32, q: u32) -> usize
 impl PairTable {
     /// A table over `n` atoms with this value everywhere.
     pub fn filled(alloc: Global, n: u32, value: Span) -> Result<PairTable, Memory>
-        requires { n ≤ 2048 }
+        requires { n ≤ ATOM_LIMIT }
         ensures table { IfOk result (λ table. table ≡ pairs_of n value) }
         ensures filled { IfOk result (λ table. IsFilledPairs table value) }
         ensures small { IfOk result (λ table. IsBelow 1000000000000000 value → IsSmallPairs table) }
@@ -53,7 +55,7 @@ impl PairTable {
     /// The number of atoms.
     pub fn atoms(&self) -> u32
         ensures value { result ≡ self.now.atoms }
-        ensures few { result ≤ 2048 }
+        ensures few { result ≤ ATOM_LIMIT }
         ensures whole { IsWholePairs self.now }
     {
         self.atoms
