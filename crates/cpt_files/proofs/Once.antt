@@ -23,8 +23,8 @@ use Rattle.cpt_reach.specs.declared.pruning.Pruned.{Pruned}
 use Rattle.cpt_reach.proofs.OneAnswer.{one_pruning}
 use Rattle.cpt_files.specs.declared.accepted.Accepted.{Accepted}
 use Rattle.cpt_answer.specs.declared.ending.Ending.{Ending}
-use Rattle.cpt_files.specs.declared.texts.Source.{Source}
-use Rattle.cpt_files.specs.declared.texts.Source.TheVariants.{OfDomain, OfProblem}
+use Rattle.cpt_files.specs.declared.problems.Source.{Source}
+use Rattle.cpt_files.specs.declared.problems.Source.TheVariants.{OfDomain, OfProblem}
 use Rattle.cpt_files.specs.Accepted.{AcceptsTask, GroundsTo, KeepsTo, PrunesTo, accepted, ground_ending, prune_ending}
 use Rattle.cpt_answer.specs.Giving.{Then, ThenBy, ended}
 use Rattle.cpt_answer.proofs.Giving.{then_by_once, then_once}

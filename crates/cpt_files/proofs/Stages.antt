@@ -26,7 +26,7 @@ use Rattle.cpt_files.specs.declared.accepted.Accepted.{Accepted}
 use Rattle.cpt_answer.specs.declared.ending.Ending.{Ending}
 use Rattle.cpt_answer.specs.declared.ending.Cause.TheVariants.{Passed}
 use Rattle.cpt_answer.specs.declared.ending.Ending.TheVariants.{Because}
-use Rattle.cpt_files.specs.declared.texts.Source.TheVariants.{OfDomain, OfProblem}
+use Rattle.cpt_files.specs.declared.problems.Source.TheVariants.{OfDomain, OfProblem}
 use Rattle.cpt_files.specs.Accepted.{AcceptsTask, GroundsTo, IsSmall, KeepsTo, PrunesTo, accepted, ground_ending, prune_ending}
 use Rattle.cpt_answer.specs.Giving.{Gives, ThenBy, ended}
 use Rattle.cpt_files.specs.Files.{text_under}

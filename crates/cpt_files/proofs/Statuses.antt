@@ -22,8 +22,8 @@ use Rattle.cpt_files.specs.declared.accepted.Accepted.{Accepted}
 use Rattle.cpt_answer.specs.declared.ending.Ending.{Ending}
 use Rattle.cpt_answer.specs.declared.ending.Cause.TheVariants.{Passed}
 use Rattle.cpt_answer.specs.declared.ending.Ending.TheVariants as endings
-use Rattle.cpt_files.specs.declared.texts.Source.{Source}
-use Rattle.cpt_files.specs.declared.texts.Source.TheVariants.{OfDomain, OfProblem}
+use Rattle.cpt_files.specs.declared.problems.Source.{Source}
+use Rattle.cpt_files.specs.declared.problems.Source.TheVariants.{OfDomain, OfProblem}
 use Rattle.cpt_files.specs.Accepted.{AcceptsTask, GroundsTo, KeepsTo, PrunesTo, accepted, ground_ending, prune_ending}
 use Rattle.cpt_answer.specs.Endings.{ending_answer}
 use Rattle.cpt_answer.specs.Giving.{Then, ThenBy, ended}

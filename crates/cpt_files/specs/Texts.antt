@@ -20,8 +20,8 @@ use Rattle.cpt_answer.specs.declared.ending.ByteFault.TheVariants as faults
 use Rattle.cpt_answer.specs.declared.ending.Ending.{Ending}
 use Rattle.cpt_answer.specs.declared.ending.Cause.TheVariants.{Passed, DomainByte, ProblemByte}
 use Rattle.cpt_answer.specs.declared.ending.Ending.TheVariants.{Because, Memory}
-use Rattle.cpt_files.specs.declared.texts.Source.{Source}
-use Rattle.cpt_files.specs.declared.texts.Source.TheVariants.{OfDomain, OfProblem}
+use Rattle.cpt_files.specs.declared.problems.Source.{Source}
+use Rattle.cpt_files.specs.declared.problems.Source.TheVariants.{OfDomain, OfProblem}
 use Rattle.cpt_answer.specs.Giving.{Then, ThenBy, ended}
 use Rattle.cpt_files.specs.Files.{text_under}
 

@@ -6,7 +6,7 @@ ghost use Rattle.cpt_facts.specs.Fitting.{Fits};
 ghost use Rattle.cpt_files.specs.Accepted.{AcceptsTask, IsSmall, KeepsTo, ground_ending, prune_ending};
 ghost use Rattle.cpt_answer.specs.Giving.{Gives};
 
-use crate::texts::{domain_in, problem_in};
+use crate::problems::{domain_in, problem_in};
 use cpt_answer::{Cause, Ending};
 use cpt_domain::Domain;
 use cpt_facts::Problem;

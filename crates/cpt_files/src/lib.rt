@@ -4,9 +4,9 @@
 mod accepted;
 mod files;
 mod names;
-mod texts;
+mod problems;
 
 pub use accepted::{Accepted, accepted_in};
 pub use files::{plan_in, task_in};
 pub use names::KeptNames;
-pub use texts::Source;
+pub use problems::Source;

@@ -4,7 +4,7 @@ ghost use Rattle.std.specs.Prelude.{◌≡◌, ◌∷◌, IfOk};
 ghost use Rattle.cpt_instance.specs.Durations.{HasValues, duration_in};
 ghost use Rattle.cpt_instance.specs.Instances.{objects_for};
 
-use crate::values::object_for;
+use crate::bindings::object_for;
 use cpt_domain::{Lasting, Term};
 use cpt_facts::Valued;
 use cpt_task::Memory;

@@ -9,8 +9,8 @@ ghost use Rattle.cpt_instance.specs.Instances.{HasDuration, Instance, TestHolds,
 ghost use Rattle.cpt_instance.specs.NameReading.{named_duration};
 ghost use Rattle.cpt_instance.specs.Named.{IsBehind, IsInside, IsNamed};
 
+use crate::bindings::{duration_of, tests_hold};
 use crate::names::{blank_at, read_args};
-use crate::values::{duration_of, tests_hold};
 use cpt_domain::{Domain, Schema};
 use cpt_facts::Problem;
 

@@ -1,6 +1,7 @@
 //! Instances of actions: which there are, and which one a name is of.
 #![tactic(auto)]
 
+mod bindings;
 mod choices;
 mod counting;
 mod durations;
@@ -9,7 +10,6 @@ mod instance;
 mod instances;
 mod listing;
 mod names;
-mod values;
 
 pub use durations::{ValueMap, duration_in, objects_for, value_map};
 pub use error::GroundError;

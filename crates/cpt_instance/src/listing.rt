@@ -7,12 +7,12 @@ ghost use Rattle.cpt_instance.specs.Durations.{HasValues};
 ghost use Rattle.cpt_instance.specs.Instances.{parents_of};
 ghost use Rattle.cpt_instance.specs.Listing.{Adds, AddsWhere, AreAll, IsChosen, IsKept, IsOfFirst, IsOfSchema, ListsInstances};
 
+use crate::bindings::tests_hold;
 use crate::choices::{choice_at, choices_of};
 use crate::counting::{INSTANCE_LIMIT, list_count, object_kinds, schemas_count};
 use crate::durations::{ValueMap, duration_in};
 use crate::error::GroundError;
 use crate::instances::Instance;
-use crate::values::tests_hold;
 use cpt_domain::{Domain, Schema};
 use cpt_facts::Problem;
 use cpt_pddl::Ancestry;

@@ -1,5 +1,5 @@
 use Rattle.cpt_files.proofs.Stages.{domain_under}
-use Rattle.cpt_files.proofs.texts.domain_in.Goals as goal
+use Rattle.cpt_files.proofs.problems.domain_in.Goals as goal
 
 pub returns-clause-answer : goal.returns-clause-answer
 returns-clause-answer g c =

@@ -1,5 +1,5 @@
 use Rattle.cpt_instance.proofs.ValueLemmas.{of_value}
-use Rattle.cpt_instance.proofs.values.duration_of.Goals as goal
+use Rattle.cpt_instance.proofs.bindings.duration_of.Goals as goal
 
 pub returns-in-Value : goal.returns-in-Value
 returns-in-Value c =

@@ -4,7 +4,7 @@ use Rattle.cpt_answer.specs.declared.ending.Ending.{Ending}
 use Rattle.cpt_answer.specs.Giving.{Gives}
 use Rattle.cpt_files.specs.Texts.{ProblemText}
 use Rattle.cpt_files.proofs.Stages.{problem_faulty, problem_given, problem_unparsed}
-use Rattle.cpt_files.proofs.texts.problem_in_text.Goals as goal
+use Rattle.cpt_files.proofs.problems.problem_in_text.Goals as goal
 
 pub returns-in-Err-clause-answer : goal.returns-in-Err-clause-answer
 returns-in-Err-clause-answer c = λ steady. problem_unparsed steady c.args.domain.now c.args.text.now c.in-Err.ending (c.in-Err.ensures.answer steady)

@@ -4,7 +4,7 @@ use Rattle.cpt_answer.specs.declared.ending.Ending.{Ending}
 use Rattle.cpt_answer.specs.Giving.{Gives}
 use Rattle.cpt_files.specs.Texts.{DomainText}
 use Rattle.cpt_files.proofs.Stages.{domain_faulty, domain_given, domain_unparsed}
-use Rattle.cpt_files.proofs.texts.domain_in_text.Goals as goal
+use Rattle.cpt_files.proofs.problems.domain_in_text.Goals as goal
 
 pub returns-in-Err-clause-answer : goal.returns-in-Err-clause-answer
 returns-in-Err-clause-answer c = λ steady. domain_unparsed steady c.args.text.now c.in-Err.ending (c.in-Err.ensures.answer steady)
