@@ -36,17 +36,18 @@ fn span_beside(board: &Board, atoms: &[u32], q: u32) -> Span
     greater_span(set_span(pairs, atoms), more)
 }
 
-/// When all atoms of both lists can hold together at the earliest.
-fn span_of_both(board: &Board, first: &[u32], second: &[u32]) -> Span
+/// When all atoms of both lists can hold together at the earliest; `own` and `other` are the spans of each by itself.
+fn span_of_both(board: &Board, first: &[u32], own: Span, second: &[u32], other: Span) -> Span
     requires good { IsGood board.now }
     requires first { All (λ p. p < board.now.pairs.atoms) first.now }
+    requires own { own ≡ set_span_of board.now.pairs first.now }
     requires second { All (λ p. p < board.now.pairs.atoms) second.now }
+    requires other { other ≡ set_span_of board.now.pairs second.now }
     ensures value { result ≡ set_span_of board.now.pairs (first.now ++ second.now) }
     ensures small { IsBelow (100000 * reached board.now.pairs.values + 1) result }
 {
-    let pairs = board.pairs();
-    let more = greater_span(set_span(pairs, second), span_across(pairs, first, second));
-    greater_span(set_span(pairs, first), more)
+    let across = span_across(board.pairs(), first, second);
+    greater_span(own, greater_span(other, across))
 }
 
 /// The span and a duration after it.
@@ -91,8 +92,16 @@ pub fn limit_by_two(board: &Board, first: &Action, second: &Action) -> Span
     ensures value { result ≡ limit_by_two board.now.pairs first.now second.now }
     ensures next { IsNextTo board.now.pairs.values result }
 {
-    let begin = span_of_both(board, first.pre.as_slice(), second.pre.as_slice());
+    let own = span_of(board, first.pre.as_slice());
+    let other = span_of(board, second.pre.as_slice());
+    let begin = span_of_both(
+        board,
+        first.pre.as_slice(),
+        own,
+        second.pre.as_slice(),
+        other,
+    );
     let both = after(board, begin, first.dur.min(second.dur));
-    let more = greater_span(limit_by_one(board, second), both);
-    greater_span(limit_by_one(board, first), more)
+    let more = greater_span(after(board, other, second.dur), both);
+    greater_span(after(board, own, first.dur), more)
 }

@@ -7,7 +7,7 @@ use Rattle.cpt_h2.proofs.limits.span_of_both.Goals as goal
 
 pub returns-clause-value : goal.returns-clause-value
 returns-clause-value c =
-    rw (c.greater_span.ensures, c.set_span-2.ensures, c.greater_span-more.ensures, c.set_span.ensures, c.span_across.ensures, c.pairs-pairs.ensures)
+    rw (c.greater_span-2.ensures, c.requires.own, c.greater_span.ensures, c.requires.other, c.span_across-across.ensures, c.pairs.ensures)
     (sym (span_both c.args.board.now.pairs c.args.first.now c.args.second.now))
 
 pub returns-clause-small : goal.returns-clause-small
