@@ -19,7 +19,7 @@ use Rattle.cpt_schema.specs.declared.schemas.Schema.{Schema}
 use Rattle.cpt_facts.specs.declared.problem.Fact.{Fact}
 use Rattle.cpt_facts.specs.declared.problem.Valued.{Valued}
 use Rattle.cpt_facts.specs.Fitting.{no_value}
-use Rattle.cpt_problem.specs.declared.objects.Filled.{Filled}
+use Rattle.cpt_problem.specs.declared.atoms.Filled.{Filled}
 use Rattle.cpt_problem.specs.Inits.{Beginning, equation, has_value, init_by, init_in, inits_in, is_timed, is_value, same_args, unless_known, value_at, value_by, value_in, with_fact, with_value}
 use Rattle.cpt_problem.specs.Objects.{atom_in, function_term}
 use Rattle.cpt_problem.specs.Tables.{is_duration_function}

@@ -16,7 +16,7 @@ use Rattle.cpt_pddl.specs.Words.{is_name, is_variable}
 use Rattle.cpt_declared.specs.declared.declared.Declared.{Declared}
 use Rattle.cpt_declared.specs.declared.signatures.Signatures.{Signatures}
 use Rattle.cpt_facts.specs.declared.problem.Fact.{Fact}
-use Rattle.cpt_problem.specs.declared.objects.Filled.{Filled}
+use Rattle.cpt_problem.specs.declared.atoms.Filled.{Filled}
 use Rattle.cpt_problem.specs.Objects.{applied, atom_in, function_term, next_object, object_at, object_by, objects_in, objects_rest, typed_object}
 use Rattle.cpt_problem.proofs.Steps.{if_ok, if_some, ok_then, or_ok}
 

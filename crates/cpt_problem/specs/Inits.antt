@@ -12,7 +12,7 @@ use Rattle.cpt_declared.specs.declared.declared.Declared.{Declared}
 use Rattle.cpt_schema.specs.declared.schemas.Schema.{Schema}
 use Rattle.cpt_facts.specs.declared.problem.Fact.{Fact}
 use Rattle.cpt_facts.specs.declared.problem.Valued.{Valued}
-use Rattle.cpt_problem.specs.declared.objects.Filled.{Filled}
+use Rattle.cpt_problem.specs.declared.atoms.Filled.{Filled}
 use Rattle.cpt_problem.specs.Objects.{atom_in, function_term}
 use Rattle.cpt_problem.specs.Tables.{is_duration_function}
 

@@ -11,7 +11,7 @@ use Rattle.cpt_declared.specs.declared.declared.Declared.{Declared}
 use Rattle.cpt_declared.specs.declared.signatures.Signatures.{Signatures}
 use Rattle.cpt_schema.specs.Terms.{extra_term}
 use Rattle.cpt_facts.specs.declared.problem.Fact.{Fact}
-use Rattle.cpt_problem.specs.declared.objects.Filled.{Filled}
+use Rattle.cpt_problem.specs.declared.atoms.Filled.{Filled}
 
 -- an object with its type, where it is declared
 abbrev pub object_by : Typed → ℕ → Option ℕ → Result (ℕ × ℕ) Fault

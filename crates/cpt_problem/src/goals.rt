@@ -7,7 +7,7 @@ ghost use Rattle.cpt_pddl.specs.Words.{head_of};
 ghost use Rattle.cpt_problem.specs.Goals.{absent_atom, goal_by, goal_in, goal_part, goals_in, negated, negated_by, negated_group, no_aims, present_atom};
 ghost use Rattle.cpt_problem.specs.Shapes.{aims_of};
 
-use crate::objects::atom_in;
+use crate::atoms::atom_in;
 use cpt_declared::Declared;
 use cpt_facts::Fact;
 use cpt_pddl::{Cursor, Fault, Feature, Head, Next, group_at, head_of, nothing};

@@ -7,7 +7,7 @@ ghost use Rattle.cpt_pddl.specs.Words.{head_of};
 ghost use Rattle.cpt_problem.specs.Inits.{equation, init_by, init_in, inits_in, is_timed, is_value, nothing_begun, unless_known, value_by, value_in, value_at, with_fact, with_value};
 ghost use Rattle.cpt_problem.specs.Shapes.{begun_of};
 
-use crate::objects::{Filled, atom_in, function_term};
+use crate::atoms::{Filled, atom_in, function_term};
 use crate::timing::Timing;
 use crate::values::Values;
 use cpt_declared::Declared;

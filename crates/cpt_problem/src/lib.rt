@@ -1,10 +1,10 @@
 //! Problems, and how they are read.
 #![tactic(auto)]
 
+mod atoms;
 mod error;
 mod goals;
 mod inits;
-mod objects;
 mod reading;
 mod sections;
 mod tables;
