@@ -21,7 +21,6 @@ use cpt_io::Sink;
 use cpt_options::{Budget, Options, budget_of};
 use cpt_search::Outcome;
 use cpt_solve::{best_tables, outcome_of_task, outcome_reply, outcome_status};
-use cpt_soundness::tell_sets;
 use cpt_tables::Tables;
 use cpt_task::Task;
 use std::alloc::Global;
@@ -57,7 +56,6 @@ fn reply_of(
     ensures kept { result ≢ Err Ending.Read }
 {
     let _actions = task.actions();
-    tell_sets(task);
     if outcome_status(found) == 0 {
         return checked_summary(alloc, n, task, tables, budget, found);
     }

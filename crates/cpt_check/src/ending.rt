@@ -1,7 +1,7 @@
 //! What is said of a text at its first fault or at its end.
 
 ghost use Rattle.std.specs.Prelude.{◌≡◌, ◌≤◌, ◌^◌, ℕ, List, [], length, Some};
-ghost use Rattle.cpt_task.specs.Shape.{TaskShape, InBounds};
+ghost use Rattle.cpt_task.specs.Shape.{TaskShape};
 ghost use Rattle.cpt_check.specs.Judging.{RulesOf, LeavesOf, RulingHolds};
 ghost use Rattle.cpt_check.specs.Progress.{IsRead, Concludes};
 
@@ -9,16 +9,8 @@ use crate::judged::{Judged, Ruling};
 use crate::past::{Fault, Past};
 use cpt_cert_read::{Claim, Lines, Version};
 use cpt_sections::{claimed, version_of};
-use cpt_soundness::tell_sets;
 use cpt_task::Task;
 use cpt_verdict::Why;
-
-/// Tells that the task's numbers are in range, and does nothing else.
-fn tell_bounds(task: &Task)
-    ensures { InBounds task.now }
-{
-    let _actions = task.actions();
-}
 
 /// The version and the claim of a text that is read to its end; `None` where it ends too early.
 fn end_of(past: &Past, lines: &Lines) -> Option<(Version, Claim)>
@@ -35,8 +27,7 @@ pub fn conclude(task: &Task, past: &Past, lines: &Lines) -> Judged
     ensures leaves { (text : List ℕ) → IsRead task.now text past.now lines.now → LeavesOf task.now text (Some []) result.ruling }
     ensures holds { (text : List ℕ) → IsRead task.now text past.now lines.now → length text ≤ 2 ^ 36 → RulingHolds task.now text result.version result.ruling }
 {
-    tell_bounds(task);
-    tell_sets(task);
+    let _actions = task.actions();
     match end_of(past, lines) {
         Some((version, claim)) => Judged {
             version: Some(version),

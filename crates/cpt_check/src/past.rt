@@ -51,13 +51,6 @@ pub fn start() -> Past
     }
 }
 
-/// Tells that with nothing behind it the text is whole or ends too early, and does nothing else.
-fn tell_end(stage: &Stage)
-    ensures { (t : TaskShape) (n : ℕ) → IsStage t n stage.now → (o : Option (Version × Claim)) × Ends t stage.now n o }
-{
-    let _ = claimed(stage);
-}
-
 /// Reads one line more.
 pub fn judge_line(alloc: Global, task: &Task, past: Past, line: &CertLine) -> Result<Found, Memory>
     requires stage { IsStage task.now (past.count + 1) past.stage }
@@ -72,7 +65,7 @@ pub fn judge_line(alloc: Global, task: &Task, past: Past, line: &CertLine) -> Re
     let version = version_of(&past.stage);
     match take_line(alloc, task, past.stage, count, line)? {
         Turned::On(stage) => {
-            tell_end(&stage);
+            let _claimed = claimed(&stage);
             Ok(Found::On(Past { stage, count }))
         }
         Turned::Fault { line, why } => Ok(Found::Fault(Fault { version, line, why })),

@@ -18,7 +18,6 @@ use cpt_io::{Library, Sink};
 use cpt_options::Budget;
 use cpt_search::Outcome;
 use cpt_solve::{best_tables, outcome_of_task, outcome_status};
-use cpt_soundness::tell_sets;
 use cpt_tables::Tables;
 use cpt_task::{Limit, Task};
 use std::alloc::Global;
@@ -56,7 +55,6 @@ fn tell_proof<K: Sink>(
     ensures { TellsProof task.now budget version (output (K.faults out.old) (K.written out.old)) (output (K.faults out.new) (K.written out.new)) result }
 {
     let _actions = task.actions();
-    tell_sets(task);
     match put_proof(
         alloc,
         task,

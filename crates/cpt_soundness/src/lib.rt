@@ -3,11 +3,9 @@
 #![tactic(auto)]
 
 mod laws;
-mod sets;
 
 pub use laws::{
     apply_formed, branches_close, children_cover, children_fit, dead_admits_none,
     deleters_keep_away, gaps_kept, goal_bounds, narrow_formed, narrow_keeps, root_admits,
     root_formed, steps_close, tree_refutes,
 };
-pub use sets::tell_sets;

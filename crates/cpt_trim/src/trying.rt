@@ -2,7 +2,6 @@
 
 ghost use Rattle.std.specs.Prelude.{◌≡◌, ◌+◌, ◌<◌, ◌≤◌, ℕ, Some, length, map, slice_get, IfOk, MatchBool};
 ghost use Rattle.cpt_trim.specs.declared.fates.Fate.{Fate};
-ghost use Rattle.cpt_task.specs.Shape.{InBounds};
 ghost use Rattle.cpt_cert_read.specs.Texts.{ended};
 ghost use Rattle.cpt_trim.specs.Without.{IsAccepted};
 ghost use Rattle.cpt_trim.specs.Fates.{AreTold, Drops, IsNeeded, kept_in, text_of};
@@ -13,13 +12,6 @@ use cpt_check_text::check_text;
 use cpt_task::{Memory, Task};
 use std::alloc::Global;
 
-/// Tells that the task's numbers are in range, and does nothing else.
-fn tell_bounds(task: &Task)
-    ensures { InBounds task.now }
-{
-    let _actions = task.actions();
-}
-
 /// Whether the text is a certificate of the task.
 fn is_certificate(alloc: Global, task: &Task, text: &[u8]) -> Result<bool, Memory>
     requires size { length text.now ≤ 16777216 }
@@ -27,7 +19,7 @@ fn is_certificate(alloc: Global, task: &Task, text: &[u8]) -> Result<bool, Memor
     requires actions { length task.now.actions ≤ 4096 }
     ensures { IfOk result (λ accepted. MatchBool accepted (IsAccepted task.now text.now) (IsAccepted task.now text.now → ⊥)) }
 {
-    tell_bounds(task);
+    let _actions = task.actions();
     let judged = check_text(alloc, task, text)?;
     match judged.ruling {
         Ruling::Accepted(_) => Ok(true),

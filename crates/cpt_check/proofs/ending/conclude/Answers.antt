@@ -8,13 +8,13 @@ use Rattle.cpt_check.proofs.ending.conclude.Goals as goal
 pub returns-in-Some-clause-rules : goal.returns-in-Some-clause-rules
 returns-in-Some-clause-rules c = λ most text h le small.
     let k = c.in-Some.ensures c.args.task.now text h in
-    record { size = le; named = c.in-Some.version; version_is = refl; accepts = whole_text c.args.task.now text k.0 c.in-Some.version c.in-Some.claim [] k.2.0 c.tell_bounds.ensures (omega (arith, le, small)) k.1 k.2.1 }
+    record { size = le; named = c.in-Some.version; version_is = refl; accepts = whole_text c.args.task.now text k.0 c.in-Some.version c.in-Some.claim [] k.2.0 c.actions-actions.ensures.bounds (omega (arith, le, small)) k.1 k.2.1 }
 
 pub returns-in-Some-clause-holds : goal.returns-in-Some-clause-holds
 returns-in-Some-clause-holds c = λ text h short.
     let k = c.in-Some.ensures c.args.task.now text h in
-    let a = whole_text c.args.task.now text k.0 c.in-Some.version c.in-Some.claim [] k.2.0 c.tell_bounds.ensures short k.1 k.2.1 in
-    (c.in-Some.version, refl, (a.0, a.1, certificates_hold c.args.task.now text c.in-Some.version c.in-Some.claim a.0 c.tell_bounds.ensures c.tell_sets.ensures a.1))
+    let a = whole_text c.args.task.now text k.0 c.in-Some.version c.in-Some.claim [] k.2.0 c.actions-actions.ensures.bounds short k.1 k.2.1 in
+    (c.in-Some.version, refl, (a.0, a.1, certificates_hold c.args.task.now text c.in-Some.version c.in-Some.claim a.0 c.actions-actions.ensures.bounds (record { goal = c.actions-actions.ensures.sets.goal; pre = c.actions-actions.ensures.sets.pre }) a.1))
 
 pub returns-in-None-clause-rules : goal.returns-in-None-clause-rules
 returns-in-None-clause-rules c = λ most text h le small.

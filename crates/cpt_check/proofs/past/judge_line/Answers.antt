@@ -7,8 +7,8 @@ use Rattle.cpt_check.proofs.past.judge_line.Goals as goal
 pub returns-in-On : goal.returns-in-On
 returns-in-On c = λ read h.
     let a = subst (Turns c.args.task.now c.args.past.stage (c.args.past.count + 1) c.args.line.now) c.in-On.is c.in_ok-stage.ensures in
-    let k = c.tell_end.ensures c.args.task.now (c.args.past.count + 1 + 1) a.stage in
-    past_more c.args.task.now read c.args.past c.args.line.now c.in-On.stage k.0 h a k.1
+    let k = c.claimed-claimed.ensures c.args.task.now (c.args.past.count + 1 + 1) a.stage in
+    past_more c.args.task.now read c.args.past c.args.line.now c.in-On.stage c.claimed-claimed.result h a k
 
 pub returns-in-Fault : goal.returns-in-Fault
 returns-in-Fault c = λ read h.

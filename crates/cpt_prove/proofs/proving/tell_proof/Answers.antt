@@ -5,7 +5,7 @@ use Rattle.cpt_prove.proofs.proving.tell_proof.Goals as goal
 
 pub put_proof-requires-clause-found : goal.put_proof-requires-clause-found
 put_proof-requires-clause-found g c = record {
-  provable = provable c.args.task.now c.args.tables.now c.args.budget c.actions-actions.ensures.bounds c.tell_sets.ensures c.requires.small c.requires.tables c.requires.budget;
+  provable = provable c.args.task.now c.args.tables.now c.args.budget c.actions-actions.ensures.bounds (record { goal = c.actions-actions.ensures.sets.goal; pre = c.actions-actions.ensures.sets.pre }) c.requires.small c.requires.tables c.requires.budget;
   outcome = c.requires.outcome;
   trees = c.requires.trees;
 }

@@ -10,4 +10,4 @@ returns-in-Accepted c =
 pub returns-in-Rejected : goal.returns-in-Rejected
 returns-in-Rejected c =
     let size = c.requires.size in
-    rejected_is c.args.task.now 16777216 c.args.text.now c.in_ok-judged.judged _ _ c.tell_bounds.ensures (omega (arith, size)) c.in-Rejected.is (c.in_ok-judged.ensures.rules 16777216 size)
+    rejected_is c.args.task.now 16777216 c.args.text.now c.in_ok-judged.judged _ _ c.actions-actions.ensures.bounds (omega (arith, size)) c.in-Rejected.is (c.in_ok-judged.ensures.rules 16777216 size)
