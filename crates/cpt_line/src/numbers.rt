@@ -45,7 +45,10 @@ pub fn plain_number(bytes: &[u8]) -> Option<(u64, &[u8])>
     if count == 0 || (count != 1 && bytes.starts_with(b"0")) {
         return None;
     }
-    Some((capped_number(&bytes[..count], 1_000_000_001), &bytes[count..]))
+    Some((
+        capped_number(&bytes[..count], 1_000_000_001),
+        &bytes[count..],
+    ))
 }
 
 /// Appends the number in decimal digits, without a leading zero. After an `Err` the text is unchanged.
