@@ -2,6 +2,14 @@
 #![tactic(auto)]
 
 #[cfg(test)]
+mod certs;
+#[cfg(test)]
+mod changed;
+#[cfg(test)]
+mod expected;
+#[cfg(test)]
+mod faults;
+#[cfg(test)]
 mod judged;
 #[cfg(test)]
 mod scene;
