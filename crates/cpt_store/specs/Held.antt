@@ -1,4 +1,4 @@
-use Rattle.std.specs.Prelude.{◌≡◌, ℕ, ◌+◌, ◌≤◌, ◌<◌, List, [], ◌∷◌, ◌++◌, length, map, Option, Some, None, is_some, All, IfSome, vec_len, vec_capacity}
+use Rattle.std.specs.Prelude.{◌≡◌, ◌≤◌, ◌<◌, true, List, [], ◌∷◌, ◌++◌, length, map, Option, Some, None, All, IfSome}
 use Rattle.std.specs.Option.{option_map}
 use Rattle.cpt_task.specs.Shape.{TaskShape}
 use Rattle.cpt_sheet.specs.declared.data.Decision.{Decision}
@@ -6,56 +6,37 @@ use Rattle.cpt_sheet.specs.declared.data.Decision.TheVariants.{Join, Bring, Befo
 use Rattle.cpt_sheet.specs.declared.data.Kind.{Kind}
 use Rattle.cpt_sheet.specs.declared.data.Kind.TheVariants.{Act}
 use Rattle.cpt_sheet.specs.declared.data.Sheet.{Sheet}
-use Rattle.cpt_sheet.specs.Edits.{posted}
-use Rattle.cpt_sheet.specs.Formed.{IsFormed}
 use Rattle.cpt_sheet.specs.declared.data.Step.{Step}
+use Rattle.cpt_sheet.specs.Formed.{IsFormed}
 use Rattle.cpt_tables.specs.declared.tables.Tables.{Tables}
 use Rattle.cpt_calculus.specs.Rules.{IsLegal}
-use Rattle.cpt_calculus.specs.Decisions.{applied}
-use Rattle.cpt_steps.specs.Room.{orders_room}
-use Rattle.cpt_store.specs.declared.held.Held.{Held}
 use Rattle.cpt_store.specs.declared.store.Next.{Next}
 use Rattle.cpt_store.specs.declared.store.Store.TheInside.{Inside}
 use Rattle.cpt_index.specs.declared.index.Index.{Index}
 use Rattle.cpt_index.specs.declared.index.Seat.{Seat}
 use Rattle.cpt_index.specs.Index.{HasRoomFor, IsIndexOf, IsSeat, kinds_of}
+use Rattle.cpt_block.specs.Blocks.{IsFrameOf}
+use Rattle.cpt_cells.specs.Decided.{IsReadyFor}
+use Rattle.cpt_cells.specs.Shapes.{CellsShape, SheetMark}
 use Rattle.cpt_store.specs.Stores.{Mark, StoreShape}
 
--- the orders with these posted one after the other
-abbrev pub orders_with : List (ℕ × ℕ) → List (ℕ × ℕ) → List (ℕ × ℕ)
-orders_with os [] = os
-orders_with os (o ∷ more) = orders_with (posted o.0 o.1 os) more
+-- a mark of the cells
+abbrev pub mark_of : SheetMark → Mark
+mark_of m = record { sheet = m.sheet; written = m.written }
 
--- the sheet that is held: the orders posted since the copy was made stand beside it
-abbrev pub sheet_of : Held → Sheet
-sheet_of h = record h.base { orders = orders_with h.base.orders h.extra.items }
+-- how a store is seen
+abbrev pub shape_of : Inside → StoreShape
+shape_of s = record { task = s.task; sheet = s.cells.sheet; marks = map mark_of s.cells.marks; ready = option_map (λ (n : Next). n.decision) s.next; markable = s.markable }
 
--- room for each order that can still be posted
-pub record HasRoom (h : Held) : Type 0 where
-  pub room : vec_len h.extra + orders_room (sheet_of h) (length h.base.tokens) ≤ vec_capacity h.extra
-
--- a sheet of the task with room for its steps
-pub record IsHeldFor (t : TaskShape) (h : Held) : Type 0 where
-  pub room : HasRoom h
-  pub formed : IsFormed t (sheet_of h)
-  pub few : length h.base.tokens ≤ 4200000000
+-- a sheet of the task whose tokens can be numbered
+pub record IsSheetFor (t : TaskShape) (s : Sheet) : Type 0 where
+  pub formed : IsFormed t s
+  pub few : length s.tokens ≤ 4200000000
 
 -- the step is legal for some tables
 pub record IsLegalFor (t : TaskShape) (s : Sheet) (step : Step) : Type 0 where
   pub tables : Tables
   pub legal : IsLegal t tables s step
-
-abbrev pub mark_of : Held → Mark
-mark_of h = record { sheet = sheet_of h; written = 0 }
-
--- how a store is seen
-abbrev pub shape_of : Inside → StoreShape
-shape_of s = record { task = s.task; sheet = sheet_of s.held; marks = map mark_of s.kept.items; ready = option_map (λ (n : Next). n.decision) s.next; markable = is_some s.spare }
-
--- a copy of the sheet
-pub record IsCopy (t : TaskShape) (h g : Held) : Type 0 where
-  pub same : sheet_of g ≡ sheet_of h
-  pub held : IsHeldFor t g
 
 -- what is brought, if anything, has room in the lists
 abbrev pub IsSeated : TaskShape → Index → Option Seat → Type 0
@@ -81,11 +62,15 @@ pub record IsSeatFor (t : TaskShape) (i : Index) (d : Decision) (z : Option Seat
   pub seated : IsSeated t i z
   pub kind : kind_in z ≡ brings d
 
--- the sheet after the decision
-pub record IsNext (t : TaskShape) (i : Index) (h : Held) (n : Next) : Type 0 where
-  pub after : sheet_of n.held ≡ applied t (sheet_of h) n.decision
-  pub held : IsHeldFor t n.held
+-- there is room for the decision in the cells and in the lists
+pub record IsNext (t : TaskShape) (i : Index) (c : CellsShape) (n : Next) : Type 0 where
+  pub ready : IsReadyFor t c n.decision n.numbers.items
   pub seat : IsSeatFor t i n.decision n.seat
+
+-- there is room for a mark
+pub record HasMarkRoom (c : CellsShape) : Type 0 where
+  pub mark : 0 < c.mark_room
+  pub entries : c.cells ≤ c.entry_room
 
 -- the kinds are the first of those
 pub record IsFirstOf (ks ls : List Kind) : Type 0 where
@@ -93,8 +78,12 @@ pub record IsFirstOf (ks ls : List Kind) : Type 0 where
   pub is : ls ≡ ks ++ rest
 
 -- what the tokens of each of these sheets stand for
-abbrev pub kinds_kept : List Held → List (List Kind)
-kinds_kept hs = map (λ h. kinds_of h.base) hs
+abbrev pub kinds_kept : List Sheet → List (List Kind)
+kinds_kept ss = map kinds_of ss
+
+-- the sheets of marks
+abbrev pub sheets_of : List SheetMark → List Sheet
+sheets_of ms = map (λ m. m.sheet) ms
 
 -- the first of them, and else these
 abbrev pub first_of : List (List Kind) → List Kind → List Kind
@@ -106,13 +95,21 @@ abbrev pub IsGrowing : List (List Kind) → List Kind → Type 0
 IsGrowing [] ls = Unit {0}
 IsGrowing (ks ∷ more) ls = IsFirstOf ks (first_of more ls) × IsGrowing more ls
 
--- what always holds of a store; a copy of the sheet is room for one mark
+-- the sheets are the task's, and their tokens become more from one to the next, up to these kinds
+pub record AreKept (t : TaskShape) (ss : List Sheet) (ks : List Kind) : Type 0 where
+  pub sheets : All (IsSheetFor t) ss
+  pub growing : IsGrowing (kinds_kept ss) ks
+
+-- the cells hold a sheet of the task, and the lists are those of its tokens
+pub record IsKeptBy (t : TaskShape) (c : CellsShape) (i : Index) : Type 0 where
+  pub sheet : IsSheetFor t c.sheet
+  pub frame : IsFrameOf t c.frame
+  pub indexed : IsIndexOf t (kinds_of c.sheet) i
+  pub kept : AreKept t (sheets_of c.marks) (kinds_of c.sheet)
+
+-- what always holds of a store
 pub record IsSound (s : Inside) : Type 0 where
   pub acts : length s.task.actions ≤ 4096
-  pub indexed : IsIndexOf s.task (kinds_of s.held.base) s.index
-  pub held : IsHeldFor s.task s.held
-  pub kept : All (IsHeldFor s.task) s.kept.items
-  pub growing : IsGrowing (kinds_kept s.kept.items) (kinds_of s.held.base)
-  pub spare : IfSome s.spare (IsCopy s.task s.held)
-  pub place : IfSome s.spare (λ _. vec_len s.kept < vec_capacity s.kept)
-  pub next : IfSome s.next (IsNext s.task s.index s.held)
+  pub held : IsKeptBy s.task s.cells s.index
+  pub room : s.markable ≡ true → HasMarkRoom s.cells
+  pub next : IfSome s.next (IsNext s.task s.index s.cells)

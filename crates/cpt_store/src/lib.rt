@@ -2,7 +2,6 @@
 #![tactic(auto)]
 
 mod copies;
-mod held;
 mod readers;
 mod rule;
 mod store;

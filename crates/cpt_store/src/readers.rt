@@ -115,7 +115,7 @@ impl Store {
         needs_of(ctx.task, self.kind(tok))
     }
 
-    fn is_placed(&self, x: u32, y: u32) -> bool
+    pub(crate) fn is_placed(&self, x: u32, y: u32) -> bool
         ensures { MatchBool result (IsPlaced self.now.sheet x y) (IsPlaced self.now.sheet x y → ⊥) }
     {
         let count = self.tokens();

@@ -1,6 +1,6 @@
 //! A sheet that is moved forward by steps and decisions, and back to its marks.
 
-ghost use Rattle.std.specs.Prelude.{◌≡◌, ◌+◌, ◌<◌, ◌≤◌, ◌^◌, ◌++◌, ◌∷◌, [], ℕ, true, false, length, slice_get, Some, IfOk, OnOk, OnErr, MatchBool, MatchOption, IsTrue, ◌↔◌};
+ghost use Rattle.std.specs.Prelude.{◌≡◌, ◌+◌, ◌<◌, ◌≤◌, ◌^◌, ◌++◌, ◌∷◌, [], ℕ, true, false, nat_lt, length, slice_get, Some, IfOk, OnOk, OnErr, MatchBool, MatchOption, IsTrue, ◌↔◌};
 ghost use Rattle.cpt_sheet.specs.Formed.{IsFormed};
 ghost use Rattle.cpt_sheet.specs.Gaps.{FitsTask};
 ghost use Rattle.cpt_sheet.specs.Live.{IsLive, IsDead};
@@ -8,20 +8,17 @@ ghost use Rattle.cpt_sheet.specs.View.{before, cands, has, kind_of, span_of};
 ghost use Rattle.cpt_calculus.specs.Rules.{IsToken, narrowed};
 ghost use Rattle.cpt_calculus.specs.Decisions.{applied, Fits};
 ghost use Rattle.cpt_calculus.specs.Root.{root_of};
-ghost use Rattle.cpt_store.specs.Held.{IsHeldFor, IsSeatFor, IsSeated, kind_in, kinds_with, sheet_of};
-ghost use Rattle.cpt_index.specs.Index.{IsIndexOf, kinds_in, kinds_of};
+ghost use Rattle.cpt_store.specs.Held.{IsSeatFor, IsSeated, kind_in, kinds_with};
+ghost use Rattle.cpt_index.specs.Index.{IsIndexOf, kinds_in};
 ghost use Rattle.cpt_index.specs.Lists.{IsConsumer, IsDeleter, IsOffer, IsRival, Lists};
 ghost use Rattle.cpt_store.specs.Stores.{CanNarrow, IsBack, IsLent, IsReady, IsSpent, KeepsMarks};
 
 use crate::copies::copy_task;
-use crate::held::{Held, copied, hold, holds_order, revise};
-use cpt_calculus::{apply, root};
+use cpt_cells::Cells;
 use cpt_index::{Index, Seat, index_of};
-use cpt_sheet::{
-    Cand, Decision, Interval, Kind, Sheet, Step, is_dead, is_listed, kind, list, span,
-};
+use cpt_sheet::{Cand, Decision, Interval, Kind, Step};
 use cpt_tables::Tables;
-use cpt_task::{Memory, Steps, Task};
+use cpt_task::{Memory, Span, Steps, Task};
 use std::alloc::Global;
 use std::marker::Model;
 use std::sync::ledger::Ledger;
@@ -36,24 +33,23 @@ pub struct Ctx<'a> {
 /// Where a step lands: a token, or the outside occurrences of an action.
 pub type Subject = Cand;
 
-/// A decision, the sheet after it, and the token that it brings.
+/// A decision for which room stands, the numbers of the token that it brings, and its place in the lists.
 #[derive(Drop)]
 struct Next {
     decision: Decision,
-    held: Held,
+    numbers: Vec<u64>,
     seat: Option<Seat>,
 }
 
-/// A sheet of a task that goes back to its marks. It is moved by copies, which are made where room is reserved. The lists
-/// of its atoms and actions grow and shrink with its tokens.
+/// A sheet of a task, in cells that go back to their marks, and the lists of its atoms and actions, which grow and shrink
+/// with its tokens.
 #[derive(Drop)]
 pub struct Store {
     task: Task,
+    cells: Cells,
     index: Index,
-    held: Held,
-    spare: Option<Held>,
     next: Option<Next>,
-    kept: Vec<Held>,
+    markable: bool,
 }
 
 impl Model for Store {
@@ -66,50 +62,6 @@ impl Model for Store {
     ghost view = { shape_of };
 
     ghost invariant = { IsSound };
-}
-
-/// Copies of the sheet, with room for their orders: as it is, and after the decision.
-fn prepared(
-    alloc: Global,
-    task: &Task,
-    held: &Held,
-    decision: &Decision,
-) -> Result<(Held, Held), Memory>
-    requires held { IsHeldFor task.now held.now }
-    requires fits { Fits (sheet_of held.now) decision.now }
-    requires few { length (sheet_of held.now).tokens < 4200000000 }
-    ensures same { IfOk result (λ p. sheet_of p.0 ≡ sheet_of held.now) }
-    ensures after { IfOk result (λ p. sheet_of p.1 ≡ applied task.now (sheet_of held.now) decision.now) }
-    ensures held { IfOk result (λ p. IsHeldFor task.now p.0 × IsHeldFor task.now p.1) }
-{
-    let same = hold(alloc, task, copied(alloc, held)?)?;
-    let mut sheet = copied(alloc, held)?;
-    apply(task, &mut sheet, decision)?;
-    let after = hold(alloc, task, sheet)?;
-    Ok((same, after))
-}
-
-/// What the tokens of a sheet stand for.
-fn kinds(alloc: Global, sheet: &Sheet) -> Result<Vec<Kind>, Memory>
-    ensures { IfOk result (λ v. v.items ≡ kinds_of sheet.now) }
-{
-    Ok(
-        sheet
-            .tokens
-            .as_slice()
-            .iter()
-            .map(|token| token.kind)
-            .collect(alloc)?,
-    )
-}
-
-/// The lists of a sheet.
-fn indexed(alloc: Global, task: &Task, sheet: &Sheet) -> Result<Index, Memory>
-    requires { length sheet.now.tokens < 2 ^ 32 }
-    ensures { IfOk result (IsIndexOf task.now (kinds_of sheet.now)) }
-{
-    let kinds = kinds(alloc, sheet)?;
-    index_of(alloc, task, &kinds)
 }
 
 /// Room in the lists for the token that a decision brings.
@@ -149,17 +101,15 @@ impl Store {
         ensures spent { IfOk result IsSpent }
     {
         let _ = ctx.tables.dists.actions();
-        let sheet = root(alloc, ctx.task, ctx.tables, bound)?;
+        let cells = Cells::root(alloc, ctx.task, ctx.tables, bound)?;
         let task = copy_task(alloc, ctx.task)?;
-        let index = indexed(alloc, &task, &sheet)?;
-        let held = hold(alloc, &task, sheet)?;
+        let index = index_of(alloc, &task, &[Kind::Start, Kind::End])?;
         Ok(Store {
             task,
+            cells,
             index,
-            held,
-            spare: None,
             next: None,
-            kept: Vec::new(alloc),
+            markable: false,
         })
     }
 
@@ -167,7 +117,7 @@ impl Store {
     pub fn bound(&self) -> u64
         ensures { result ≡ self.now.sheet.bound }
     {
-        self.held.base.bound
+        self.cells.bound()
     }
 
     /// How many tokens there are.
@@ -175,7 +125,14 @@ impl Store {
         ensures value { result ≡ length self.now.sheet.tokens }
         ensures few { result ≤ 4200000000 }
     {
-        self.held.base.tokens.as_slice().len() as u32
+        self.cells.tokens() as u32
+    }
+
+    /// Whether there is such a token.
+    fn is_token(&self, x: u32) -> bool
+        ensures { result ≡ nat_lt x (length self.now.sheet.tokens) }
+    {
+        (x as usize) < self.cells.tokens()
     }
 
     /// What a token stands for.
@@ -183,14 +140,28 @@ impl Store {
         requires { tok < length self.now.sheet.tokens }
         ensures { result ≡ kind_of self.now.sheet (Cand.Tok tok) }
     {
-        kind(&self.held.base, Cand::Tok(tok))
+        self.cells.kind(tok)
+    }
+
+    /// What a token stands for, and the start where there is no such token.
+    fn token_kind(&self, x: u32) -> Kind
+        ensures { result ≡ kind_of self.now.sheet (Cand.Tok x) }
+    {
+        if self.is_token(x) {
+            self.cells.kind(x)
+        } else {
+            Kind::Start
+        }
     }
 
     /// What a token or an outside action stands for.
     pub fn kind_at(&self, c: Cand) -> Kind
         ensures { result ≡ kind_of self.now.sheet c }
     {
-        kind(&self.held.base, c)
+        match c {
+            Cand::Tok(x) => self.token_kind(x),
+            Cand::Out(a) => Kind::Act(a),
+        }
     }
 
     /// When a token may begin.
@@ -198,7 +169,7 @@ impl Store {
         requires { tok < length self.now.sheet.tokens }
         ensures { result ≡ span_of self.now.sheet (Cand.Tok tok) }
     {
-        span(&self.held.base, Cand::Tok(tok))
+        self.cells.span(tok)
     }
 
     /// When the outside occurrences of an action may begin.
@@ -206,21 +177,38 @@ impl Store {
         requires { act < length self.now.task.actions }
         ensures { result ≡ span_of self.now.sheet (Cand.Out act) }
     {
-        span(&self.held.base, Cand::Out(act))
+        self.cells.out_at(act)
+    }
+
+    /// When a token may begin: never where there is no such token.
+    fn token_span(&self, x: u32) -> Interval
+        ensures { result ≡ span_of self.now.sheet (Cand.Tok x) }
+    {
+        if self.is_token(x) {
+            self.cells.span(x)
+        } else {
+            Interval {
+                lo: Span::Never,
+                hi: 0,
+            }
+        }
     }
 
     /// When a token or the outside occurrences of an action may begin.
     pub fn span_at(&self, c: Cand) -> Interval
         ensures { result ≡ span_of self.now.sheet c }
     {
-        span(&self.held.base, c)
+        match c {
+            Cand::Tok(x) => self.token_span(x),
+            Cand::Out(a) => self.cells.out_at(a),
+        }
     }
 
     /// Whether the first token ends before the second begins.
     pub fn before(&self, first: u32, second: u32) -> bool
         ensures { result ≡ before self.now.sheet first second }
     {
-        holds_order(&self.held, first, second)
+        self.is_placed(first, second) && self.cells.before(first, second)
     }
 
     /// How many candidates are left of a token for an atom.
@@ -228,7 +216,7 @@ impl Store {
         requires { tok < length self.now.sheet.tokens }
         ensures { result ≡ length (cands self.now.sheet tok pre) }
     {
-        list(&self.held.base, tok, pre).len() as u32
+        self.cells.count(tok, pre) as u32
     }
 
     /// The candidate at a place of the list of a token for an atom.
@@ -236,30 +224,35 @@ impl Store {
         requires { place < length (cands self.now.sheet tok pre) }
         ensures { slice_get (cands self.now.sheet tok pre) place ≡ Some result }
     {
-        list(&self.held.base, tok, pre)[place as usize]
+        self.cells.cand(tok, pre, place as usize)
     }
 
     /// The first candidate of a token for an atom.
     pub(crate) fn first(&self, tok: u32, pre: u32) -> Option<Cand>
         ensures { result ≡ slice_get (cands self.now.sheet tok pre) 0 }
     {
-        list(&self.held.base, tok, pre).first().copied()
+        if self.is_token(tok) {
+            self.cells.first(tok, pre)
+        } else {
+            None
+        }
     }
 
     /// Whether the candidate stands in the list of the token for the atom.
     pub fn holds(&self, tok: u32, pre: u32, c: Cand) -> bool
         ensures { result ≡ has c (cands self.now.sheet tok pre) }
     {
-        is_listed(list(&self.held.base, tok, pre), c)
+        self.is_token(tok) && self.cells.holds(tok, pre, c)
     }
 
     /// The one token of the list of the token for the atom, where it is one token.
     pub fn supplier(&self, tok: u32, pre: u32) -> Option<u32>
         ensures { MatchOption result ((y : ℕ) → IsToken (cands self.now.sheet tok pre) y → ⊥) (λ y. IsToken (cands self.now.sheet tok pre) y) }
     {
-        match list(&self.held.base, tok, pre) {
-            [Cand::Tok(y)] => Some(*y),
-            _ => None,
+        if self.is_token(tok) {
+            self.cells.supplier(tok, pre)
+        } else {
+            None
         }
     }
 
@@ -267,7 +260,7 @@ impl Store {
     pub fn dead(&self) -> bool
         ensures { MatchBool result (IsDead self.now.sheet) (IsLive self.now.sheet) }
     {
-        is_dead(&self.held.base)
+        self.cells.dead()
     }
 
     /// The tokens and outside actions that add the atom.
@@ -306,10 +299,9 @@ impl Store {
         ensures marks { KeepsMarks self.old.marks self.new.marks }
         ensures spent { IsSpent self.new }
     {
-        steps.tick();
-        self.spare = None;
+        self.markable = false;
         self.next = None;
-        revise(&self.task, &mut self.held, step);
+        self.cells.narrow(step, steps);
     }
 
     /// Room for a decision, for the steps after it and for one mark. The sheet and the marks stay.
@@ -325,18 +317,17 @@ impl Store {
         ensures err { OnErr result (IsSpent self.new) }
     {
         let _ = ctx;
-        self.spare = None;
+        self.markable = false;
         self.next = None;
-        self.kept.reserve(1)?;
-        let alloc = *self.kept.allocator();
-        let (same, after) = prepared(alloc, &self.task, &self.held, decision)?;
+        let alloc = *self.index.seats.allocator();
+        let numbers = self.cells.prepare(alloc, &self.task, decision)?;
         let seat = seat_for(&mut self.index, &self.task, decision)?;
-        self.spare = Some(same);
         self.next = Some(Next {
             decision: *decision,
-            held: after,
+            numbers,
             seat,
         });
+        self.markable = true;
         Ok(())
     }
 
@@ -351,11 +342,10 @@ impl Store {
         ensures marks { KeepsMarks self.old.marks self.new.marks }
         ensures spent { IsSpent self.new }
     {
-        steps.tick();
-        self.spare = None;
-        if let Some(Next { held, seat, .. }) = self.next.take() {
+        self.markable = false;
+        if let Some(Next { numbers, seat, .. }) = self.next.take() {
+            self.cells.apply(&self.task, decision, &numbers, steps);
             seated(&mut self.index, &self.task, seat);
-            self.held = held;
         }
     }
 
@@ -369,11 +359,8 @@ impl Store {
         ensures markable { self.new.markable ≡ false }
         ensures marks { self.new.marks ≡ self.old.marks ++ record { sheet = self.old.sheet; written = 0 } ∷ [] }
     {
-        let stands = self.kept.len();
-        if let Some(held) = self.spare.take() {
-            self.kept.push_reserved(held);
-        }
-        stands
+        self.markable = false;
+        self.cells.mark()
     }
 
     /// Goes back to the newest mark, which is gone then. It takes no memory.
@@ -382,14 +369,10 @@ impl Store {
         ensures back { IsBack self.old self.new steps.old steps.new }
         ensures spent { IsSpent self.new }
     {
-        let _ = mark;
-        let _ = steps;
-        self.spare = None;
+        self.markable = false;
         self.next = None;
-        if let Some(held) = self.kept.pop() {
-            let count = held.base.tokens.as_slice().len();
-            self.index.shorten(&self.task, count);
-            self.held = held;
-        }
+        self.cells.undo_to(mark, steps);
+        let count = self.cells.tokens();
+        self.index.shorten(&self.task, count);
     }
 }

@@ -1,25 +1,26 @@
-use Rattle.std.proofs.Common.{◌∙◌, List, Option, IfSome, ap, subst, sym}
-use Rattle.cpt_sheet.specs.declared.data.Kind.{Kind}
-use Rattle.cpt_index.specs.Index.{kinds_of}
-use Rattle.cpt_index.proofs.IndexLemmas.{index_as}
+use Rattle.std.proofs.Common.{◌∙◌, ◌<◌, Option, IfSome, ap, length, map, subst, sym}
+use Rattle.cpt_sheet.specs.declared.data.Decision.{Decision}
+use Rattle.cpt_calculus.specs.Decisions.{Fits}
 use Rattle.cpt_store.specs.declared.store.Next.{Next}
-use Rattle.cpt_store.specs.Held.{IsNext, kind_in, kinds_with}
-use Rattle.cpt_store.proofs.KeptLemmas.{kept_with, kinds_next, next_here}
+use Rattle.cpt_store.specs.Held.{IsNext, brings, mark_of}
+use Rattle.cpt_store.specs.Stores.{KeepsMarks, StoreShape}
+use Rattle.cpt_store.proofs.KeptLemmas.{decision_is, held_applied, marks_stay, next_here}
 use Rattle.cpt_store.proofs.store.Store.apply.Goals as goal
 
 pub invariant_of-self : goal.invariant_of-self
 invariant_of-self g c =
-    let n = next_here c.self.inside.task c.self.inside.index c.self.inside.held c.in-Some.field-0 c.self.inside.next c.in-Some.ensures.value c.self.invariant.next in
-    let k = kinds_next c.self.inside.task c.self.inside.index c.self.inside.held c.in-Some.field-0 n in
+    let w = c.apply.ensures in
+    let n = next_here c.self.inside.task c.self.inside.index c.self.inside.cells c.in-Some.field-0 c.self.inside.next c.in-Some.ensures.value c.self.invariant.next in
+    let d = decision_is c.self.inside.next c.in-Some.field-0 c.args.self.now.ready c.args.decision.now (ap (λ (s : StoreShape). s.ready) c.self.view_is) c.in-Some.ensures.value c.requires.ready.ready in
     record {
       acts = c.self.invariant.acts;
-      indexed = index_as c.self.inside.task _ (kinds_of c.in-Some.field-0.held.base) c.seated.new.index
-          (ap (λ (ks : List Kind). kinds_with ks (kind_in c.in-Some.field-0.seat)) c.self.invariant.indexed.kinds ∙ sym k)
-          c.seated.ensures;
-      held = n.held;
-      kept = c.self.invariant.kept;
-      growing = kept_with c.self.inside.kept.items (kinds_of c.self.inside.held.base) (kinds_of c.in-Some.field-0.held.base) (kind_in c.in-Some.field-0.seat) k c.self.invariant.growing;
-      spare = tt;
-      place = tt;
-      next = subst (λ (o : Option Next). IfSome o (IsNext c.self.inside.task c.seated.new.index c.in-Some.field-0.held)) (sym c.in-Some.ensures.after) tt;
+      held = held_applied c.self.inside.task c.self.inside.cells c.apply.new.self c.self.inside.index c.seated.new.index c.args.decision.now c.in-Some.field-0.seat c.self.invariant.held
+          (subst (λ (s : StoreShape). Fits s.sheet c.args.decision.now) (sym c.self.view_is) c.requires.fits)
+          (subst (λ (s : StoreShape). length s.sheet.tokens < 4200000000) (sym c.self.view_is) c.requires.few) w.frame w.sheet w.marks
+          (n.seat.kind ∙ ap (λ (z : Decision). brings z) d) c.seated.ensures;
+      room = λ e. cc;
+      next = subst (λ (o : Option Next). IfSome o (IsNext c.self.inside.task c.seated.new.index c.apply.new.self)) (sym c.in-Some.ensures.after) tt;
     }
+
+pub returns-in-Some-clause-marks : goal.returns-in-Some-clause-marks
+returns-in-Some-clause-marks g c = subst (λ (z : StoreShape). KeepsMarks z.marks (map mark_of c.apply.new.self.marks)) c.self.view_is (marks_stay c.self.inside.cells.marks c.apply.new.self.marks c.apply.ensures.marks)
