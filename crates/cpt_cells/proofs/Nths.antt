@@ -1,8 +1,8 @@
 -- the candidates of a list by their places
-use Rattle.std.proofs.Common.{◌≡◌, ◌≢◌, ℕ, suc, zero, ◌+◌, ◌-◌, ◌≤◌, ◌<◌, List, [], ◌∷◌, ◌++◌, ◌==◌, Bool, true, false, if◌then◌else◌, length, get_or, slice_get, take, drop, Some, None, refl, sym, ◌∙◌, ap, arith, take-append-drop}
+use Rattle.std.proofs.Common.{◌≡◌, ◌≢◌, ℕ, suc, zero, ◌+◌, ◌-◌, ◌≤◌, ◌<◌, List, [], ◌∷◌, ◌++◌, ◌==◌, Bool, true, false, if◌then◌else◌, length, get_or, slice_get, take, drop, Option, Some, None, is_some, not, MatchBool, MatchOption, append-nil, refl, sym, ◌∙◌, ap, arith, take-append-drop}
 use Rattle.std.specs.Prelude.{map, ◌&&◌}
 use Rattle.std.proofs.lemmas.Bool.{and_parts, eqb-false, eqb-true}
-use Rattle.std.proofs.lemmas.List.{length-append, map-append, map_more}
+use Rattle.std.proofs.lemmas.List.{length-append, map-append, map_more, nil_from_length, take_all}
 use Rattle.std.proofs.Math.Seq.{drop-cons}
 use Rattle.cpt_sheet.specs.declared.data.Cand.{Cand}
 use Rattle.cpt_sheet.specs.declared.data.Cand.TheVariants.{Tok, Out}
@@ -94,6 +94,55 @@ outs_more cs bs i count one b h k =
     let l : length (outs_in cs (take (i + 1) bs)) ≡ length (outs_in cs (take i bs)) + bit (has (Out (get_or bs i 0)) cs) = ap (λ (ds : List Cand). length ds) (outs_next cs bs i b) ∙ bit_length (has (Out (get_or bs i 0)) cs) (outs_in cs (take i bs)) (Out (get_or bs i 0)) in
     omega arith
 
+-- none more is passed
+pub tokens_none : (cs : List Cand) (n : ℕ) → length (tokens_in cs n) ≡ 0 → has (Tok n) cs ≡ false → length (tokens_in cs (n + 1)) ≡ 0
+tokens_none cs n h f = sym (tokens_more cs n 0 0 (sym h) (sym (ap bit f)))
+
+pub outs_none : (cs : List Cand) (bs : List ℕ) (i : ℕ) → i < length bs → length (outs_in cs (take i bs)) ≡ 0 → has (Out (get_or bs i 0)) cs ≡ false → length (outs_in cs (take (i + 1) bs)) ≡ 0
+outs_none cs bs i l h f = sym (outs_more cs bs i 0 0 l (sym h) (sym (ap bit f)))
+
+pub outs_all : (cs : List Cand) (bs : List ℕ) (i : ℕ) → length bs ≤ i → length (outs_in cs (take i bs)) ≡ 0 → length (outs_in cs bs) ≡ 0
+outs_all cs bs i l h = ap (λ (zs : List ℕ). length (outs_in cs zs)) (sym (take_all i bs l)) ∙ h
+
+-- a list that has one is not empty, and with an outside action it is not one token
+pub not_empty : (c : Cand) (cs : List Cand) → has c cs ≡ true → cs ≢ []
+not_empty c cs t e = (let k : has c [] ≡ true = ap (λ (ds : List Cand). has c ds) (sym e) ∙ t in cc)
+
+pub not_token : (a : ℕ) (cs : List Cand) → has (Out a) cs ≡ true → (y : ℕ) → cs ≢ Tok y ∷ []
+not_token a cs t y e = (let k : has (Out a) (Tok y ∷ []) ≡ true = ap (λ (ds : List Cand). has (Out a) ds) (sym e) ∙ t in cc)
+
+-- the token that was found, if one was
+abbrev pub token_list : Option ℕ → List Cand
+token_list None = []
+token_list (Some y) = Tok y ∷ []
+
+pub found_none : (cs : List Cand) (n : ℕ) (o : Option ℕ) → tokens_in cs n ≡ token_list o → has (Tok n) cs ≡ false → tokens_in cs (n + 1) ≡ token_list o
+found_none cs n o h f = tokens_next cs n ∙ (ap (λ b. if b then tokens_in cs n ++ Tok n ∷ [] else tokens_in cs n) f ∙ h)
+
+pub found_one : (cs : List Cand) (n : ℕ) (o : Option ℕ) → tokens_in cs n ≡ token_list o → is_some o ≡ false → has (Tok n) cs ≡ true → tokens_in cs (n + 1) ≡ Tok n ∷ []
+found_one cs n None h i t = tokens_next cs n ∙ (ap (λ b. if b then tokens_in cs n ++ Tok n ∷ [] else tokens_in cs n) t ∙ ap (λ (ds : List Cand). ds ++ Tok n ∷ []) h)
+found_one cs n (Some y) h i t = absurd (let k : true ≡ false = i in cc)
+
+tokens_rest : (cs : List Cand) (m n : ℕ) → length (tokens_in cs m) ≤ length (tokens_in cs (m + n))
+tokens_rest cs m n =
+    let e : tokens_in cs (m + n) ≡ tokens_in cs m ++ kept (λ c. has c cs) (table Tok (0 + m) n) = ap (λ (ds : List Cand). kept (λ c. has c cs) ds) (table_split 0 m n) ∙ kept_append (λ c. has c cs) (table Tok 0 m) (table Tok (0 + m) n) in
+    let l = ap (λ (ds : List Cand). length ds) e ∙ length-append (tokens_in cs m) (kept (λ c. has c cs) (table Tok (0 + m) n)) in
+    omega arith
+
+pub found_two : (cs : List Cand) (n all : ℕ) (o : Option ℕ) → n < all → tokens_in cs n ≡ token_list o → is_some o ≡ true → has (Tok n) cs ≡ true → length (tokens_in cs all) ≢ 1
+found_two cs n all None b h i t e = absurd (let k : false ≡ true = i in cc)
+found_two cs n all (Some y) b h i t e =
+    let k : tokens_in cs (n + 1) ≡ (Tok y ∷ []) ++ Tok n ∷ [] = tokens_next cs n ∙ (ap (λ b. if b then tokens_in cs n ++ Tok n ∷ [] else tokens_in cs n) t ∙ ap (λ (ds : List Cand). ds ++ Tok n ∷ []) h) in
+    let m : length (tokens_in cs (n + 1)) ≡ 2 = ap (λ (ds : List Cand). length ds) k in
+    let r = tokens_rest cs (n + 1) (all - (n + 1)) in
+    let z : n + 1 + (all - (n + 1)) ≡ all = omega arith in
+    let q : length (tokens_in cs (n + 1 + (all - (n + 1)))) ≡ length (tokens_in cs all) = ap (λ (i : ℕ). length (tokens_in cs i)) z in
+    absurd (omega arith)
+
+pub found_is : (cs : List Cand) (n all : ℕ) (o : Option ℕ) → n ≡ all → tokens_in cs n ≡ token_list o → MatchOption o (length (tokens_in cs all) ≢ 1) (λ y. tokens_in cs all ≡ Tok y ∷ [])
+found_is cs n all None e h = λ k. (let m : length (tokens_in cs all) ≡ 0 = ap (λ (ds : List Cand). length ds) (ap (λ (i : ℕ). tokens_in cs i) (sym e) ∙ h) in absurd (omega arith))
+found_is cs n all (Some y) e h = ap (λ (i : ℕ). tokens_in cs i) (sym e) ∙ h
+
 pub bit_most : (b : Bool) → bit b ≤ 1
 bit_most true = omega arith
 bit_most false = omega arith
@@ -114,6 +163,18 @@ module _ (f : Frame) (p q : ℕ) (cs l : List Cand) (order : cs ≡ kept (λ c. 
 
   pub count_is : length (tokens_in l (length f.kinds)) + length (outs_in l (adders_at f q)) ≡ length cs
   count_is = sym (ap (λ (ds : List Cand). length ds) split ∙ length-append (tokens_in l (length f.kinds)) (outs_in l (adders_at f q)))
+
+  pub empty_is : (r : Bool) → length (outs_in l (adders_at f q)) ≡ 0 → (r ≡ true → l ≢ []) → (r ≡ false → length (tokens_in l (length f.kinds)) ≡ 0) → MatchBool (not r) (l ≡ []) (l ≢ [])
+  empty_is true o full none = full refl
+  empty_is false o full none = (let n = none refl in let k = count_is in sym list ∙ nil_from_length cs (omega arith))
+
+  pub single_is : (r : Option ℕ) → length (outs_in l (adders_at f q)) ≡ 0 → MatchOption r (length (tokens_in l (length f.kinds)) ≢ 1) (λ y. tokens_in l (length f.kinds) ≡ Tok y ∷ []) →
+      MatchOption r ((y : ℕ) → cs ≡ Tok y ∷ [] → ⊥) (λ y. cs ≡ Tok y ∷ [])
+  single_is None o h = λ y e. (let k = count_is in let m : length cs ≡ 1 = ap (λ (ds : List Cand). length ds) e in h (omega arith))
+  single_is (Some y) o h =
+      split
+      ∙ (ap (λ (ds : List Cand). tokens_in l (length f.kinds) ++ ds) (nil_from_length (outs_in l (adders_at f q)) o)
+      ∙ (append-nil (tokens_in l (length f.kinds)) ∙ h))
 
   pub cand_left : (place : ℕ) (c : Cand) → place < length (tokens_in l (length f.kinds)) → slice_get (tokens_in l (length f.kinds)) place ≡ Some c → slice_get cs place ≡ Some c
   cand_left place c b h =

@@ -1,6 +1,6 @@
 //! How many candidates a list has, and which.
 
-ghost use Rattle.std.specs.Prelude.{◌≡◌, ◌&&◌, ◌==◌, ◌<◌, ◌≤◌, ◌^◌, ℕ, Some, length, slice_get, MatchOption};
+ghost use Rattle.std.specs.Prelude.{◌≡◌, ◌&&◌, ◌==◌, ◌<◌, ◌≤◌, ◌^◌, ◌≢◌, ◌∷◌, [], ℕ, Some, true, false, length, slice_get, MatchOption};
 ghost use Rattle.cpt_sheet.specs.View.{cands};
 ghost use Rattle.cpt_calculus.specs.Rules.{IsToken};
 ghost use Rattle.cpt_layout.specs.Places.{adders_at, atom_at, needs_at};
@@ -54,6 +54,56 @@ impl Cells {
             count += one_if(listed);
         }
         count
+    }
+
+    /// Whether an outside action is in a list.
+    pub(crate) fn has_out(&self, x: u32, j: usize) -> bool
+        requires token { x < length self.now.sheet.tokens }
+        requires need { j < length (needs_at self.now.frame x) }
+        ensures full { result ≡ true → list_in self.now.sheet x j ≢ [] }
+        ensures other { result ≡ true → (y : ℕ) → list_in self.now.sheet x j ≢ Cand.Tok y ∷ [] }
+        ensures none { result ≡ false → length (outs_in (list_in self.now.sheet x j) (adders_at self.now.frame (atom_at self.now.frame x j))) ≡ 0 }
+    {
+        let atom = self.needs(x)[j];
+        for place in 0..self.adders(atom).len() {
+            if self.lists_adder(x, j, place) {
+                return true;
+            }
+        }
+        false
+    }
+
+    /// Whether a token is in a list.
+    pub(crate) fn has_token(&self, x: u32, j: usize) -> bool
+        requires token { x < length self.now.sheet.tokens }
+        requires need { j < length (needs_at self.now.frame x) }
+        ensures full { result ≡ true → list_in self.now.sheet x j ≢ [] }
+        ensures none { result ≡ false → length (tokens_in (list_in self.now.sheet x j) (length self.now.frame.kinds)) ≡ 0 }
+    {
+        for y in 0..self.tokens() {
+            if self.lists_token(x, j, y as u32) {
+                return true;
+            }
+        }
+        false
+    }
+
+    /// The one token of a list that has no outside action, where it is one token.
+    fn only_token(&self, x: u32, j: usize) -> Option<u32>
+        requires token { x < length self.now.sheet.tokens }
+        requires need { j < length (needs_at self.now.frame x) }
+        ensures { MatchOption result (length (tokens_in (list_in self.now.sheet x j) (length self.now.frame.kinds)) ≢ 1) (λ y. tokens_in (list_in self.now.sheet x j) (length self.now.frame.kinds) ≡ Cand.Tok y ∷ []) }
+    {
+        let mut found = None;
+        for y in 0..self.tokens() {
+            if self.lists_token(x, j, y as u32) {
+                if found.is_some() {
+                    return None;
+                }
+                found = Some(y as u32);
+            }
+        }
+        found
     }
 
     /// How many candidates are left of a token for an atom.
@@ -142,13 +192,14 @@ impl Cells {
         requires { x < length self.now.sheet.tokens }
         ensures { MatchOption result ((y : ℕ) → IsToken (cands self.now.sheet x p) y → ⊥) (λ y. IsToken (cands self.now.sheet x p) y) }
     {
-        let count = self.count(x, p);
-        if count != 1 {
+        self.keeps_order(x, p);
+        let j = self.place(x, p);
+        if j >= self.needs(x).len() {
             return None;
         }
-        match self.cand(x, p, 0) {
-            Cand::Tok(y) => Some(y),
-            Cand::Out(_) => None,
+        if self.has_out(x, j) {
+            return None;
         }
+        self.only_token(x, j)
     }
 }

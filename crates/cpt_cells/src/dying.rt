@@ -17,8 +17,10 @@ impl Cells {
         ensures { MatchBool result (list_in self.now.sheet x j ≡ []) (list_in self.now.sheet x j ≢ []) }
     {
         self.keeps_order_at(x, j);
-        let count = self.count_tokens(x, j) + self.count_outs(x, j);
-        count == 0
+        if self.has_out(x, j) {
+            return false;
+        }
+        !self.has_token(x, j)
     }
 
     /// Whether a token has no moment, or a list without a candidate.

@@ -1,0 +1,8 @@
+use Rattle.std.proofs.Common.{◌≡◌}
+use Rattle.cpt_block.specs.Blocks.{list_in}
+use Rattle.cpt_cells.specs.Lists.{tokens_in}
+use Rattle.cpt_cells.proofs.Nths.{token_list}
+use Rattle.cpt_cells.proofs.cells.Cells.only_token.Given as goal
+
+abbrev pub invariant-loop-y : goal.invariant-loop-y
+invariant-loop-y l = tokens_in (list_in l.self.sheet l.x l.j) l.y ≡ token_list l.found
