@@ -1,10 +1,14 @@
 -- searches over right sides of pairs
-use Rattle.std.proofs.Common.{ℕ, ◌+◌, ◌<◌, ◌≤◌, ◌⊎◌, inl, inr, Option}
+use Rattle.std.proofs.Common.{◌≡◌, ℕ, ◌+◌, ◌<◌, ◌≤◌, ◌⊎◌, max, min, inl, inr, Option, None, List, get_or, refl, sym, subst, ap, ◌∙◌, arith}
 use Rattle.cpt_task.specs.declared.span.Span.{Span}
-use Rattle.cpt_tables.specs.Shapes.{PairShape, pair_at}
+use Rattle.cpt_task.specs.declared.span.Span.TheVariants.{Never}
+use Rattle.cpt_task.specs.declared.task.Action.{Action}
+use Rattle.cpt_tables.specs.Spans.{◌≤ˢ◌}
+use Rattle.cpt_tables.specs.Shapes.{PairShape, row_start, pair_at}
+use Rattle.cpt_tables.proofs.SpanLemmas.{le_trans}
 use Rattle.cpt_task.specs.Shape.{TaskShape}
-use Rattle.cpt_tables.specs.Admissible.{nth_action}
-use Rattle.cpt_tables.specs.Scans.{Reaches, Scans, OfPair, ScansPairs, IsOfTwo}
+use Rattle.cpt_tables.specs.Admissible.{nth_action, limit_by_two}
+use Rattle.cpt_tables.specs.Scans.{sorted, Reaches, Scans, OfPair, ScansPairs, AreMet, IsAmongBoth, IsOfTwo}
 use Rattle.cpt_tables.specs.declared.search.Pair.{Pair}
 use Rattle.cpt_tables.proofs.ScanLemmas as scans
 
@@ -25,6 +29,34 @@ first_more h M i old mid new s r = scans.scans_more Reaches (value_of h) (λ j. 
 -- nothing was looked at
 pub pairs_none : (h : PairShape) (M : ℕ → ℕ → Span → Type 0) (old : Option Pair) → ((p q : ℕ) (v : Span) → M p q v → ⊥) → ScansPairs h M old old
 pairs_none h M old none = scans.scans_none Reaches (value_of h) (OfPair M) old (λ k v l. none l.0 l.1 v l.3)
+
+sorted_value : (h : PairShape) (p q : ℕ) → pair_at h (min p q) (max p q) ≡ pair_at h p q
+sorted_value h p q =
+    let up : max (min p q) (max p q) ≡ max p q = omega arith in
+    let down : min (min p q) (max p q) ≡ min p q = omega arith in
+    ap (λ k. get_or h.values k Never) (ap (λ m. row_start m + min (min p q) (max p q)) up ∙ ap (λ m. row_start (max p q) + m) down)
+
+-- no right side was passed
+pub pairs_met : (h : PairShape) (M : ℕ → ℕ → Span → Type 0) (old : Option Pair) → ((p q : ℕ) (v : Span) → M p q v → pair_at h p q ≤ˢ v) → ScansPairs h M old old
+pairs_met h M old met = record {
+  lowered = λ k r. r;
+  passes = λ k v l. inl (subst (λ x. value_of h x ≤ˢ v) (sym l.2) (subst (λ x. x ≤ˢ v) (sym (sorted_value h l.0 l.1)) (met l.0 l.1 v l.3)));
+  origin = inl refl;
+}
+
+-- what a search from nothing, which found nothing, says
+pub met_if_none : (h : PairShape) (ps qs : List ℕ) (most : Span) → ScansPairs h (IsAmongBoth ps qs most) None None → AreMet h ps qs most
+met_if_none h ps qs most s p q hp hq = elim (s.passes (sorted p q) most (p, q, refl, (hp, hq, refl))) [
+  | inl le ↦ subst (λ x. x ≤ˢ most) (sorted_value h p q) le
+  | inr r ↦ absurd r
+]
+
+-- what two actions add is met by a value that is no more than their limit
+pub two_met : (h : PairShape) (c d : Action) (most : Span) (old : Option Pair) → most ≤ˢ limit_by_two h c d → AreMet h c.add d.add most → ScansPairs h (IsOfTwo h c d) old old
+two_met h c d most old le met = pairs_met h (IsOfTwo h c d) old below
+  where
+    below : (p q : ℕ) (v : Span) → IsOfTwo h c d p q v → pair_at h p q ≤ˢ v
+    below p q v (apart, (hp, hq, e)) = subst (λ x. pair_at h p q ≤ˢ x) (sym e) (le_trans (pair_at h p q) most (limit_by_two h c d) (met p q hp hq) le)
 
 -- the same right sides, said otherwise
 pub pairs_same : (h : PairShape) (L M : ℕ → ℕ → Span → Type 0) (old new : Option Pair) → ((p q : ℕ) (v : Span) → L p q v → M p q v) → ((p q : ℕ) (v : Span) → M p q v → L p q v) → ScansPairs h L old new → ScansPairs h M old new

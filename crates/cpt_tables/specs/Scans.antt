@@ -53,6 +53,10 @@ ScansPairs h M old new = Scans Reaches (λ k. pair_at h k.p k.q) (OfPair M) old 
 abbrev pub IsAmongBoth : List ℕ → List ℕ → Span → ℕ → ℕ → Span → Type 0
 IsAmongBoth ps qs most p q v = Contains ps p × Contains qs q × (v ≡ most)
 
+-- no value of an atom of the first list with one of the second is above v
+abbrev pub AreMet : PairShape → List ℕ → List ℕ → Span → Type 0
+AreMet h ps qs v = (p q : ℕ) → Contains ps p → Contains qs q → pair_at h p q ≤ˢ v
+
 -- one right side of an atom with one of the list
 abbrev pub IsWithOne : ℕ → List ℕ → Span → ℕ → ℕ → Span → Type 0
 IsWithOne p qs most r q v = (r ≡ p) × Contains qs q × (v ≡ most)

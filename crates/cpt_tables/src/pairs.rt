@@ -1,11 +1,11 @@
 //! Whether a pair table is admissible.
 
-ghost use Rattle.std.specs.Prelude.{◌≡◌, ◌<◌, length, MatchOption, IfNone, None};
+ghost use Rattle.std.specs.Prelude.{◌≡◌, ◌<◌, true, length, MatchOption, IfNone, None};
 ghost use Rattle.cpt_task.specs.Shape.{InBounds};
 ghost use Rattle.cpt_tables.specs.Shapes.{FitsPairs, IsSmallPairs, set_span_of};
 ghost use Rattle.cpt_tables.specs.Admissible.{IsAdmissiblePairs, IsPairFault};
 ghost use Rattle.cpt_tables.specs.Bounds.{BoundsPairs};
-ghost use Rattle.cpt_tables.specs.Scans.{ScansPairs, IsAmongBoth, IsBesideOne, IsBesideAny, IsOfTwo, IsOfPartner, IsOfAction, IsOfTask};
+ghost use Rattle.cpt_tables.specs.Scans.{AreMet, ScansPairs, IsAmongBoth, IsBesideOne, IsBesideAny, IsOfTwo, IsOfPartner, IsOfAction, IsOfTask};
 ghost use Rattle.cpt_tables.specs.Serving.{IsServed};
 
 use crate::faults::PairFault;
@@ -13,7 +13,7 @@ use crate::least::least_limit;
 use crate::pair_table::PairTable;
 use crate::search::{Pair, check_product, check_row};
 use crate::sets::set_span;
-use crate::sides::{leaves, limit_of_one, limit_of_two, limit_with, served_action};
+use crate::sides::{after, leaves, limit_of_one, limit_of_two, limit_with, served_action};
 use cpt_task::{Action, Span, Task, interfere};
 
 fn check_beside_one(
@@ -54,6 +54,20 @@ fn check_beside(pairs: &PairTable, mut best: Option<Pair>, c: &Action) -> Option
     best
 }
 
+/// Whether no value of what the one action adds with what the other adds is above this one.
+fn are_met(pairs: &PairTable, c: &Action, d: &Action, most: Span) -> bool
+    requires first { IsServed pairs.now c.now }
+    requires second { IsServed pairs.now d.now }
+    ensures { result ≡ true → AreMet pairs.now c.now.add d.now.add most }
+{
+    match check_product(pairs, None, c.add.as_slice(), d.add.as_slice(), most) {
+        None => true,
+        Some(_) => false,
+    }
+}
+
+/// Goes on over what two actions give. In an admissible table most pairs are met by when the first action ends, and
+/// all others by when both do: so whether the two interfere, which takes longer, is asked last.
 fn check_two(
     pairs: &PairTable,
     best: Option<Pair>,
@@ -67,17 +81,19 @@ fn check_two(
     requires second { IsServed pairs.now d.now }
     ensures { ScansPairs pairs.now (IsOfTwo pairs.now c.now d.now) best result }
 {
-    if interfere(c, d) {
-        best
-    } else {
-        check_product(
-            pairs,
-            best,
-            c.add.as_slice(),
-            d.add.as_slice(),
-            limit_of_two(pairs, c, own, d),
-        )
+    let early = are_met(pairs, c, d, after(own, c.dur));
+    if early {
+        return best;
     }
+    let limit = limit_of_two(pairs, c, own, d);
+    let late = are_met(pairs, c, d, limit);
+    if late {
+        return best;
+    }
+    if interfere(c, d) {
+        return best;
+    }
+    check_product(pairs, best, c.add.as_slice(), d.add.as_slice(), limit)
 }
 
 fn check_partners(
