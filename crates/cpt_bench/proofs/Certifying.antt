@@ -27,8 +27,8 @@ use Rattle.cpt_outcome.specs.Nodes.{SearchProblem}
 use Rattle.cpt_outcome.specs.Outcomes.{HasOutcome, SearchOutcome}
 use Rattle.cpt_search.specs.declared.searching.Outcome.{Outcome}
 use Rattle.cpt_search.specs.Answers.{HasTrees, outcome_of}
-use Rattle.cpt_verdict.specs.Accepting.{Accepts}
-use Rattle.cpt_verdict.proofs.OneText.{no_fault, one_claim}
+use Rattle.cpt_cert_accept.specs.Accepting.{Accepts}
+use Rattle.cpt_cert_accept.proofs.OneText.{no_fault, one_claim}
 use Rattle.cpt_bench.specs.Judging.{JudgesProof}
 
 -- what `cert_of` says of its answer

@@ -14,15 +14,15 @@ use Rattle.cpt_cert_form.specs.declared.forms.Claim.{Claim}
 use Rattle.cpt_cert_form.specs.declared.forms.Claim.TheVariants as claims
 use Rattle.cpt_cert_form.specs.declared.forms.CertLine.{CertLine}
 use Rattle.cpt_cert_form.specs.declared.forms.CertLine.TheVariants as lines
-use Rattle.cpt_verdict.specs.declared.faults.Why.{Why}
-use Rattle.cpt_verdict.specs.declared.faults.Why.TheVariants as whys
-use Rattle.cpt_verdict.specs.Trees.{Part}
-use Rattle.cpt_verdict.specs.Trees.Part.{node, worked, branches}
-use Rattle.cpt_verdict.specs.Accepting.{is_no_sooner}
-use Rattle.cpt_verdict.specs.Reading.{Outcome, Then, After, behind, take_version, take_claim, take_items, take_plan, take_pair_rows, take_pairs, take_dist_rows, take_dists, take_tree, take_open_tree, take_end, take_sizes, soonest, is_row, values_of, JudgesPlan, JudgesPairs, JudgesDists, JudgesGoal, ReadsPlan, ReadsPairs, ReadsDists}
-use Rattle.cpt_verdict.specs.Reading.Outcome.{went, faulted}
-use Rattle.cpt_verdict.specs.Descent.{Reads, begins_left, begins_work, begins_child, is_counted, take_counted_end, ReadsTree, ReadsOpenTree, ReadsTables, ReadsLastTree, ReadsTwoTrees, ReadsOptimal, ReadsSections, ReadsBody}
-use Rattle.cpt_verdict.specs.Descent.Reads.{left, whole, step, illegal, close, alive, branch, flawless, strange, none, child, inside, other, childless}
+use Rattle.cpt_cert_accept.specs.declared.faults.Why.{Why}
+use Rattle.cpt_cert_accept.specs.declared.faults.Why.TheVariants as whys
+use Rattle.cpt_cert_accept.specs.Trees.{Part}
+use Rattle.cpt_cert_accept.specs.Trees.Part.{node, worked, branches}
+use Rattle.cpt_cert_accept.specs.Accepting.{is_no_sooner}
+use Rattle.cpt_cert_accept.specs.Reading.{Outcome, Then, After, behind, take_version, take_claim, take_items, take_plan, take_pair_rows, take_pairs, take_dist_rows, take_dists, take_tree, take_open_tree, take_end, take_sizes, soonest, is_row, values_of, JudgesPlan, JudgesPairs, JudgesDists, JudgesGoal, ReadsPlan, ReadsPairs, ReadsDists}
+use Rattle.cpt_cert_accept.specs.Reading.Outcome.{went, faulted}
+use Rattle.cpt_cert_accept.specs.Descent.{Reads, begins_left, begins_work, begins_child, is_counted, take_counted_end, ReadsTree, ReadsOpenTree, ReadsTables, ReadsLastTree, ReadsTwoTrees, ReadsOptimal, ReadsSections, ReadsBody}
+use Rattle.cpt_cert_accept.specs.Descent.Reads.{left, whole, step, illegal, close, alive, branch, flawless, strange, none, child, inside, other, childless}
 use Rattle.cpt_cert_laws.specs.Fronts.{FaultsStand}
 
 -- the same outcome with more lines behind those that are left

@@ -36,8 +36,8 @@ use Rattle.cpt_cert_form.specs.declared.forms.CertLine.TheVariants as lines
 use Rattle.cpt_cert_form.specs.Forms.{span_word, cand_word, run_word, claim_words, decision_words, flaw_words, step_words, node_words, line_words, joined, IsShort, IsShortSpan, IsShortCand, IsClaim, IsRowSpan, IsRun, AreRuns, AreAlone, IsRow, IsShortDecision, IsShortFlaw, IsShortStep, IsShortNode, IsWritten}
 use Rattle.cpt_cert_form.specs.Text.{Parts, once, same_span, run_before, runs_of, row_runs, pair_row, dist_row, plan_lines, pair_lines, dist_lines, table_lines, tree_lines, open_lines, optimal_sections, sections, cert_lines}
 use Rattle.cpt_cert_print.specs.Whole.{AsksTables, AsksTree, AsksPartial, HasTables, HasTree, IsListedPlan, tables_in, lines_in, parts_of}
-use Rattle.cpt_verdict.specs.Accepting.{IsInForm}
-use Rattle.cpt_verdict.proofs.Rows.{same_span_true, same_span_same}
+use Rattle.cpt_cert_accept.specs.Accepting.{IsInForm}
+use Rattle.cpt_cert_accept.proofs.Rows.{same_span_true, same_span_same}
 use Rattle.cpt_cert_laws.specs.Lines.{WholeLinesInForm}
 
 -- at most n words, each of at most 21 bytes

@@ -31,12 +31,12 @@ use Rattle.cpt_soundness.proofs.FitLemmas.{children_fit}
 use Rattle.cpt_cert_form.specs.Forms.{IsShort, IsShortSpan, IsShortCand, IsShortDecision, IsShortFlaw, IsShortStep, IsShortNode}
 use Rattle.cpt_cert_print.specs.Whole.{AreNodes}
 use Rattle.cpt_cert_print.specs.Whole.AreNodes.{closed, opened, stepped, branched, childless, parent}
-use Rattle.cpt_verdict.specs.Accepting.{is_done}
-use Rattle.cpt_verdict.specs.Trees.{Part, IsPart, bring_of}
-use Rattle.cpt_verdict.specs.Trees.Part.{node, worked, branches}
-use Rattle.cpt_verdict.specs.Trees.IsPart.{left, whole, step, close, branch, none, child}
-use Rattle.cpt_verdict.proofs.Brings.{count_narrowed, count_applied}
-use Rattle.cpt_verdict.proofs.Ranges as ranges
+use Rattle.cpt_cert_accept.specs.Accepting.{is_done}
+use Rattle.cpt_cert_accept.specs.Trees.{Part, IsPart, bring_of}
+use Rattle.cpt_cert_accept.specs.Trees.Part.{node, worked, branches}
+use Rattle.cpt_cert_accept.specs.Trees.IsPart.{left, whole, step, close, branch, none, child}
+use Rattle.cpt_cert_accept.proofs.Brings.{count_narrowed, count_applied}
+use Rattle.cpt_cert_accept.proofs.Ranges as ranges
 use Rattle.cpt_cert_laws.specs.Trees.{TreesAreNodes, StepsAreShort, TreesAreShort}
 
 -- the form of the lines of a part

@@ -5,7 +5,7 @@ use Rattle.cpt_cert_form.specs.declared.forms.Version.{Version}
 use Rattle.cpt_cert_form.specs.Text.{cert_lines}
 use Rattle.cpt_cert_print.specs.declared.cert.Cert.{Cert}
 use Rattle.cpt_cert_print.specs.Whole.{IsWhole, parts_of}
-use Rattle.cpt_verdict.specs.Accepting.{IsInForm}
+use Rattle.cpt_cert_accept.specs.Accepting.{IsInForm}
 
 -- Each line of a whole certificate has a form, its numbers keep their limits, and it has at most 65,536 bytes. The task
 -- has at most 2,048 atoms, so that a row has no more values, and the plan is one of the task.

@@ -10,8 +10,8 @@ use Rattle.cpt_calculus.specs.Rules.{IsLegal}
 use Rattle.cpt_calculus.specs.Root.{root_of}
 use Rattle.cpt_cert_form.specs.Forms.{IsShortStep}
 use Rattle.cpt_cert_print.specs.Whole.{AreNodes, IsTree}
-use Rattle.cpt_verdict.specs.Accepting.{is_done}
-use Rattle.cpt_verdict.specs.Trees.{IsTreeOver}
+use Rattle.cpt_cert_accept.specs.Accepting.{is_done}
+use Rattle.cpt_cert_accept.specs.Trees.{IsTreeOver}
 
 -- the lines of a tree over a sheet are those of one node
 abbrev pub TreesAreNodes : Type 0

@@ -8,7 +8,7 @@ use Rattle.cpt_outcome.specs.Nodes.{SearchProblem}
 use Rattle.cpt_outcome.specs.Outcomes.{SearchOutcome, HasOutcome}
 use Rattle.cpt_cert_form.specs.declared.forms.Version.{Version}
 use Rattle.cpt_cert_form.specs.Text.{Parts, cert_text}
-use Rattle.cpt_verdict.specs.Accepting.{IsCertificate}
+use Rattle.cpt_cert_accept.specs.Accepting.{IsCertificate}
 use Rattle.cpt_evidence.specs.Evidence.{IsProvable, Tells, claim_of}
 use Rattle.cpt_search.specs.declared.searching.Outcome.{Outcome}
 use Rattle.cpt_search.specs.Answers.{HasTrees, outcome_of}

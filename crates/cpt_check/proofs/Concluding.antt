@@ -10,10 +10,10 @@ use Rattle.cpt_cert_form.specs.declared.forms.CertLine.TheVariants as lines
 use Rattle.cpt_cert_form.specs.Forms.{IsReadAs}
 use Rattle.cpt_cert_read.specs.Lines.{kept}
 use Rattle.cpt_cert_read.proofs.Enough.{kept_nothing}
-use Rattle.cpt_verdict.specs.declared.faults.Why.{Why}
-use Rattle.cpt_verdict.specs.declared.faults.Why.TheVariants as whys
-use Rattle.cpt_verdict.specs.Reading.Outcome.{went, faulted}
-use Rattle.cpt_verdict.specs.Descent.{ReadsAll}
+use Rattle.cpt_cert_accept.specs.declared.faults.Why.{Why}
+use Rattle.cpt_cert_accept.specs.declared.faults.Why.TheVariants as whys
+use Rattle.cpt_cert_accept.specs.Reading.Outcome.{went, faulted}
+use Rattle.cpt_cert_accept.specs.Descent.{ReadsAll}
 use Rattle.cpt_cert_read.specs.Texts.{ended, unended, AreLinesOf}
 use Rattle.cpt_sections.specs.declared.section.Stage.{Stage}
 use Rattle.cpt_sections.specs.Stages.{LeftOf, version_in, version_at, Ends}

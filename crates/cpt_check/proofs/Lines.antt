@@ -5,16 +5,16 @@ use Rattle.cpt_cert_form.specs.declared.forms.Version.{Version}
 use Rattle.cpt_cert_form.specs.declared.forms.Claim.{Claim}
 use Rattle.cpt_cert_form.specs.declared.forms.CertLine.{CertLine}
 use Rattle.cpt_cert_form.specs.declared.forms.CertLine.TheVariants as lines
-use Rattle.cpt_verdict.specs.declared.faults.Why.{Why}
-use Rattle.cpt_verdict.specs.declared.faults.Why.TheVariants as whys
-use Rattle.cpt_verdict.specs.Reading.{Outcome}
-use Rattle.cpt_verdict.specs.Reading.Outcome.{went, faulted}
-use Rattle.cpt_verdict.specs.Descent.{ReadsAll}
-use Rattle.cpt_verdict.proofs.OneOutcome.{one_outcome}
+use Rattle.cpt_cert_accept.specs.declared.faults.Why.{Why}
+use Rattle.cpt_cert_accept.specs.declared.faults.Why.TheVariants as whys
+use Rattle.cpt_cert_accept.specs.Reading.{Outcome}
+use Rattle.cpt_cert_accept.specs.Reading.Outcome.{went, faulted}
+use Rattle.cpt_cert_accept.specs.Descent.{ReadsAll}
+use Rattle.cpt_cert_accept.proofs.OneOutcome.{one_outcome}
 use Rattle.cpt_sections.specs.declared.section.Stage.{Stage}
 use Rattle.cpt_sections.specs.declared.section.Stage.TheVariants as stages
-use Rattle.cpt_verdict.specs.Texts.{brings_in}
-use Rattle.cpt_verdict.proofs.BringBytes.{brings_in_append}
+use Rattle.cpt_cert_accept.specs.Texts.{brings_in}
+use Rattle.cpt_cert_accept.proofs.BringBytes.{brings_in_append}
 use Rattle.cpt_sections.specs.Stages.{LeftOf, IsStage, HasFewAt, version_in, version_at, version_behind, Advances, Fails, Ends}
 use Rattle.cpt_check.specs.declared.past.Past.{Past}
 use Rattle.cpt_check.specs.Judging.{StandsIn}

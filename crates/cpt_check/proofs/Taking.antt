@@ -7,8 +7,8 @@ use Rattle.cpt_cert_read.specs.Lines.{Finishes, Feeds}
 use Rattle.cpt_cert_read.specs.Texts.{ended}
 use Rattle.cpt_cert_read.proofs.Splits.{zip_length, few_lines}
 use Rattle.cpt_cert_read.proofs.Feeding as feeding
-use Rattle.cpt_verdict.specs.Texts.{brings_in}
-use Rattle.cpt_verdict.proofs.BringBytes.{lines_bytes}
+use Rattle.cpt_cert_accept.specs.Texts.{brings_in}
+use Rattle.cpt_cert_accept.proofs.BringBytes.{lines_bytes}
 use Rattle.cpt_sections.specs.Sections.{IsLine}
 use Rattle.cpt_sections.specs.Stages.{IsStage, HasFewAt}
 use Rattle.cpt_sections.proofs.StageLines.{more_few_at}

@@ -7,13 +7,13 @@ use Rattle.cpt_cert_form.specs.declared.forms.CertLine.{CertLine}
 use Rattle.cpt_cert_form.specs.Forms.{IsReadAs}
 use Rattle.cpt_cert_read.specs.Lines.{HasNoEnd}
 use Rattle.cpt_cert_form.specs.Text.{Parts}
-use Rattle.cpt_verdict.specs.declared.faults.Why.{Why}
-use Rattle.cpt_verdict.specs.Accepting.{IsCertificate, Accepts}
-use Rattle.cpt_verdict.specs.Reading.Outcome.{faulted}
-use Rattle.cpt_verdict.specs.Descent.{ReadsAll}
+use Rattle.cpt_cert_accept.specs.declared.faults.Why.{Why}
+use Rattle.cpt_cert_accept.specs.Accepting.{IsCertificate, Accepts}
+use Rattle.cpt_cert_accept.specs.Reading.Outcome.{faulted}
+use Rattle.cpt_cert_accept.specs.Descent.{ReadsAll}
 use Rattle.cpt_cert_read.specs.Texts.{ended, AreLinesOf}
-use Rattle.cpt_verdict.specs.Texts.{FirstFault}
-use Rattle.cpt_verdict.specs.Laws.{HoldsOf}
+use Rattle.cpt_cert_accept.specs.Texts.{FirstFault}
+use Rattle.cpt_cert_accept.specs.Laws.{HoldsOf}
 use Rattle.cpt_sections.specs.Stages.{version_in}
 use Rattle.cpt_check.specs.declared.judged.Judged.{Judged}
 use Rattle.cpt_check.specs.declared.judged.Ruling.{Ruling}

@@ -7,10 +7,10 @@ ghost use Rattle.cpt_check.specs.Progress.{IsRead, Concludes};
 
 use crate::judged::{Judged, Ruling};
 use crate::past::{Fault, Past};
+use cpt_cert_accept::Why;
 use cpt_cert_read::{Claim, Lines, Version};
 use cpt_sections::{claimed, version_of};
 use cpt_task::Task;
-use cpt_verdict::Why;
 
 /// The version and the claim of a text that is read to its end; `None` where it ends too early.
 fn end_of(past: &Past, lines: &Lines) -> Option<(Version, Claim)>

@@ -1,7 +1,7 @@
 //! What the checker says of a text.
 
+use cpt_cert_accept::Why;
 use cpt_cert_read::{Claim, Version};
-use cpt_verdict::Why;
 
 /// Whether a text is a certificate of a task.
 #[derive(Clone, Copy, Debug, PartialEq, Eq)]

@@ -9,5 +9,5 @@ mod past;
 mod pieces;
 
 pub use checking::check;
-pub use cpt_verdict::Why;
+pub use cpt_cert_accept::Why;
 pub use judged::{CheckError, Judged, Ruling};

@@ -9,10 +9,10 @@ ghost use Rattle.cpt_sections.specs.Sections.{IsLine};
 ghost use Rattle.cpt_sections.specs.Stages.{IsStage, HasFewAt, Ends};
 ghost use Rattle.cpt_check.specs.Progress.{IsPast, Leads};
 
+use cpt_cert_accept::Why;
 use cpt_cert_read::{CertLine, Version};
 use cpt_sections::{Stage, Turned, begin, claimed, take_line, version_of};
 use cpt_task::{Memory, Task};
-use cpt_verdict::Why;
 use std::alloc::Global;
 
 /// Lines that are read, and in which no fault stands.

@@ -13,10 +13,10 @@ use Rattle.cpt_soundness.specs.Sets.{HasSets}
 use Rattle.cpt_cert_form.specs.declared.forms.Claim.{Claim}
 use Rattle.cpt_cert_form.specs.declared.forms.Claim.TheVariants.{Optimal, NoneUpTo, Never, Spent}
 use Rattle.cpt_cert_form.specs.declared.forms.Version.{Version}
-use Rattle.cpt_verdict.specs.declared.faults.Why.{Why}
-use Rattle.cpt_verdict.specs.Accepting.{Accepts}
-use Rattle.cpt_verdict.specs.Laws.{HoldsOf}
-use Rattle.cpt_verdict.proofs.Truth.{certificates_hold}
+use Rattle.cpt_cert_accept.specs.declared.faults.Why.{Why}
+use Rattle.cpt_cert_accept.specs.Accepting.{Accepts}
+use Rattle.cpt_cert_accept.specs.Laws.{HoldsOf}
+use Rattle.cpt_cert_accept.proofs.Truth.{certificates_hold}
 use Rattle.cpt_check.specs.declared.judged.Judged.{Judged}
 use Rattle.cpt_check.specs.declared.judged.Ruling.{Ruling}
 use Rattle.cpt_check.specs.declared.judged.Ruling.TheVariants.{Accepted, Rejected}

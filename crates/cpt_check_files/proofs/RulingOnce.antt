@@ -4,8 +4,8 @@ use Rattle.cpt_task.specs.Shape.{TaskShape, InBounds}
 use Rattle.cpt_cert_form.specs.declared.forms.Claim.{Claim}
 use Rattle.cpt_cert_form.specs.declared.forms.Version.{Version}
 use Rattle.cpt_cert_read.proofs.Splits.{lines_once}
-use Rattle.cpt_verdict.specs.declared.faults.Why.{Why}
-use Rattle.cpt_verdict.proofs.OneText.{no_fault, one_claim, one_fault}
+use Rattle.cpt_cert_accept.specs.declared.faults.Why.{Why}
+use Rattle.cpt_cert_accept.proofs.OneText.{no_fault, one_claim, one_fault}
 use Rattle.cpt_sections.specs.Stages.{version_in}
 use Rattle.cpt_check.specs.declared.judged.Judged.{Judged}
 use Rattle.cpt_check.specs.declared.judged.Ruling.{Ruling}

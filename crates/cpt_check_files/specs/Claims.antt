@@ -14,8 +14,8 @@ use Rattle.cpt_cert_form.specs.declared.forms.Version.{Version}
 use Rattle.cpt_cert_form.specs.declared.forms.Claim.{Claim}
 use Rattle.cpt_cert_form.specs.declared.forms.Claim.TheVariants.{Optimal, NoneUpTo, Never, Spent}
 use Rattle.cpt_cert_form.specs.Text.{Parts}
-use Rattle.cpt_verdict.specs.declared.faults.Why.{Why}
-use Rattle.cpt_verdict.specs.Accepting.{IsCertificate}
+use Rattle.cpt_cert_accept.specs.declared.faults.Why.{Why}
+use Rattle.cpt_cert_accept.specs.Accepting.{IsCertificate}
 use Rattle.cpt_check.specs.Judging.{IsRejected}
 use Rattle.cpt_files.specs.Accepted.{IsAccepted}
 use Rattle.cpt_check_files.specs.Rulings.{cert_limit}

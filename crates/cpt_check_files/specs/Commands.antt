@@ -8,8 +8,8 @@ use Rattle.cpt_reach.specs.declared.pruning.Pruned.{Pruned}
 use Rattle.cpt_reach.specs.Plans.{older_plan}
 use Rattle.cpt_cert_form.specs.declared.forms.Version.{Version}
 use Rattle.cpt_cert_form.specs.declared.forms.Claim.{Claim}
-use Rattle.cpt_verdict.specs.declared.faults.Why.{Why}
-use Rattle.cpt_verdict.specs.Laws.{HoldsOf}
+use Rattle.cpt_cert_accept.specs.declared.faults.Why.{Why}
+use Rattle.cpt_cert_accept.specs.Laws.{HoldsOf}
 use Rattle.cpt_answer.specs.Endings.{Answer}
 use Rattle.cpt_answer.specs.Promise.{Call, IsAnswerOf, IsUndisturbed}
 use Rattle.cpt_files.specs.Accepted.{IsAccepted}

@@ -8,8 +8,8 @@ ghost use Rattle.cpt_answer.specs.Endings.{reply_answer};
 
 use cpt_answer::Reply;
 use cpt_cert::{Claim, Version};
+use cpt_cert_accept::Why;
 use cpt_check::{Judged, Ruling};
-use cpt_verdict::Why;
 use std::alloc::{AllocError, Global};
 
 /// The line that names the version, where it is known.

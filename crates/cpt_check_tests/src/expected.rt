@@ -2,10 +2,10 @@
 
 use crate::scene::task_of;
 use cpt_cert::{Claim, Version};
+use cpt_cert_accept::Why;
 use cpt_check::{CheckError, Judged, Ruling, check};
 use cpt_io::{Library, MemLibrary};
 use cpt_task::{List, Task};
-use cpt_verdict::Why;
 use std::alloc::Global;
 use std::process::Abort;
 use std::test::Fail;

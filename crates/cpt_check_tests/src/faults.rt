@@ -5,7 +5,7 @@ use crate::changed::{Change, text_of};
 use crate::expected::{expect, rejected};
 use crate::scene::{CHAIN_TASK, EASY_TASK, KEY_TASK, LOST_TASK, MIXED_TASK};
 use cpt_cert::Version;
-use cpt_verdict::Why;
+use cpt_cert_accept::Why;
 use std::alloc::Global;
 use std::process::Abort;
 use std::test::Fail;

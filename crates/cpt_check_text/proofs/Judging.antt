@@ -2,7 +2,7 @@
 use Rattle.std.proofs.Common.{ℕ, ◌≤◌, ◌⊎◌, inl, inr, List, length, Option, arith}
 use Rattle.cpt_task.specs.Shape.{TaskShape}
 use Rattle.cpt_cert_form.specs.declared.forms.Version.{Version}
-use Rattle.cpt_verdict.specs.declared.faults.Why.{Why}
+use Rattle.cpt_cert_accept.specs.declared.faults.Why.{Why}
 use Rattle.cpt_check.specs.declared.judged.Ruling.{Ruling}
 use Rattle.cpt_check.specs.declared.judged.Ruling.TheVariants.{Accepted, Rejected}
 use Rattle.cpt_check.specs.Judging.{RulesOf, StandsWithin}

@@ -8,11 +8,11 @@ use Rattle.cpt_cert_form.specs.declared.forms.Claim.{Claim}
 use Rattle.cpt_cert_form.specs.declared.forms.CertLine.{CertLine}
 use Rattle.cpt_cert_read.specs.Texts.{ended}
 use Rattle.cpt_cert_read.proofs.Splits.{Split, split_of, readings}
-use Rattle.cpt_verdict.specs.declared.faults.Why.{Why}
-use Rattle.cpt_verdict.specs.Reading.{Outcome}
-use Rattle.cpt_verdict.specs.Reading.Outcome.{went, faulted}
-use Rattle.cpt_verdict.specs.Descent.{ReadsAll}
-use Rattle.cpt_verdict.proofs.OneOutcome.{one_outcome}
+use Rattle.cpt_cert_accept.specs.declared.faults.Why.{Why}
+use Rattle.cpt_cert_accept.specs.Reading.{Outcome}
+use Rattle.cpt_cert_accept.specs.Reading.Outcome.{went, faulted}
+use Rattle.cpt_cert_accept.specs.Descent.{ReadsAll}
+use Rattle.cpt_cert_accept.proofs.OneOutcome.{one_outcome}
 use Rattle.cpt_cert_laws.proofs.Fronts.{faults_stand}
 use Rattle.cpt_sections.specs.Stages.{version_in}
 use Rattle.cpt_check.specs.declared.judged.Judged.{Judged}

@@ -5,10 +5,10 @@ use Rattle.cpt_cert_form.specs.declared.forms.Claim.{Claim}
 use Rattle.cpt_cert_form.specs.declared.forms.CertLine.{CertLine}
 use Rattle.cpt_cert_read.specs.Texts.{AreLinesOf}
 use Rattle.cpt_cert_read.proofs.Splits.{each_has_lines}
-use Rattle.cpt_verdict.specs.Reading.{Outcome}
-use Rattle.cpt_verdict.specs.Reading.Outcome.{went, faulted}
-use Rattle.cpt_verdict.specs.Descent.{ReadsAll}
-use Rattle.cpt_verdict.proofs.TextLines.{whole_text}
+use Rattle.cpt_cert_accept.specs.Reading.{Outcome}
+use Rattle.cpt_cert_accept.specs.Reading.Outcome.{went, faulted}
+use Rattle.cpt_cert_accept.specs.Descent.{ReadsAll}
+use Rattle.cpt_cert_accept.proofs.TextLines.{whole_text}
 use Rattle.cpt_every_text.specs.Laws.{IsACertificate, HasAFault, EachTextIsRead, EachTextIsRuled}
 use Rattle.cpt_every_text.proofs.RunLines.{text_runs}
 use Rattle.cpt_every_text.proofs.Sections.{lines_read}

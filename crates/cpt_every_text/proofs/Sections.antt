@@ -18,13 +18,13 @@ use Rattle.cpt_cert_form.specs.declared.forms.Claim.{Claim}
 use Rattle.cpt_cert_form.specs.declared.forms.Claim.TheVariants as claims
 use Rattle.cpt_cert_form.specs.declared.forms.CertLine.{CertLine}
 use Rattle.cpt_cert_form.specs.declared.forms.CertLine.TheVariants as lines
-use Rattle.cpt_verdict.specs.declared.faults.Why.{Why}
-use Rattle.cpt_verdict.specs.declared.faults.Why.TheVariants as whys
-use Rattle.cpt_verdict.specs.Trees.Part.{node}
-use Rattle.cpt_verdict.specs.Accepting.{IsPlanOf, is_no_sooner}
-use Rattle.cpt_verdict.specs.Reading.{Outcome, Then, behind, take_version, take_claim, take_sizes, take_items, take_plan, take_pair_rows, take_pairs, take_dist_rows, take_dists, take_tree, take_open_tree, take_end, soonest, is_row, is_form, values_of, IsPairsOf, IsDistsOf, JudgesPlan, JudgesGoal, ReadsPlan, ReadsPairs, ReadsDists}
-use Rattle.cpt_verdict.specs.Reading.Outcome.{went, faulted}
-use Rattle.cpt_verdict.specs.Descent.{Reads, ReadsTree, ReadsOpenTree, ReadsTables, ReadsLastTree, ReadsTwoTrees, ReadsOptimal, ReadsSections, ReadsBody, ReadsAll, take_counted_end}
+use Rattle.cpt_cert_accept.specs.declared.faults.Why.{Why}
+use Rattle.cpt_cert_accept.specs.declared.faults.Why.TheVariants as whys
+use Rattle.cpt_cert_accept.specs.Trees.Part.{node}
+use Rattle.cpt_cert_accept.specs.Accepting.{IsPlanOf, is_no_sooner}
+use Rattle.cpt_cert_accept.specs.Reading.{Outcome, Then, behind, take_version, take_claim, take_sizes, take_items, take_plan, take_pair_rows, take_pairs, take_dist_rows, take_dists, take_tree, take_open_tree, take_end, soonest, is_row, is_form, values_of, IsPairsOf, IsDistsOf, JudgesPlan, JudgesGoal, ReadsPlan, ReadsPairs, ReadsDists}
+use Rattle.cpt_cert_accept.specs.Reading.Outcome.{went, faulted}
+use Rattle.cpt_cert_accept.specs.Descent.{Reads, ReadsTree, ReadsOpenTree, ReadsTables, ReadsLastTree, ReadsTwoTrees, ReadsOptimal, ReadsSections, ReadsBody, ReadsAll, take_counted_end}
 use Rattle.cpt_decidable.specs.Decidable.{IsDecidable}
 use Rattle.cpt_decidable.proofs.Deciding.{like, both, is_equal}
 use Rattle.cpt_decidable.proofs.Faults.{pairs_ruled, dists_ruled}

@@ -15,7 +15,7 @@ use Rattle.cpt_tables.proofs.PlaceLemmas.{row_before, row_next, pair_exchanged}
 use Rattle.cpt_cert_form.specs.declared.forms.Run.{Run}
 use Rattle.cpt_cert_form.specs.Forms.{IsRun, IsRowSpan}
 use Rattle.cpt_cert_form.specs.Text.{pair_row, dist_row}
-use Rattle.cpt_verdict.specs.Reading.{values_of, pair_rows, dist_rows, IsPairsOf, IsDistsOf}
+use Rattle.cpt_cert_accept.specs.Reading.{values_of, pair_rows, dist_rows, IsPairsOf, IsDistsOf}
 
 -- a value of a row
 abbrev pub IsSmall : Span → Type 0

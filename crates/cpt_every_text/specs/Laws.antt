@@ -4,11 +4,11 @@ use Rattle.cpt_cert_form.specs.declared.forms.Version.{Version}
 use Rattle.cpt_cert_form.specs.declared.forms.Claim.{Claim}
 use Rattle.cpt_cert_form.specs.declared.forms.CertLine.{CertLine}
 use Rattle.cpt_cert_read.specs.Texts.{AreLinesOf}
-use Rattle.cpt_verdict.specs.declared.faults.Why.{Why}
-use Rattle.cpt_verdict.specs.Accepting.{Accepts}
-use Rattle.cpt_verdict.specs.Reading.{Outcome}
-use Rattle.cpt_verdict.specs.Descent.{ReadsAll}
-use Rattle.cpt_verdict.specs.Texts.{FirstFault}
+use Rattle.cpt_cert_accept.specs.declared.faults.Why.{Why}
+use Rattle.cpt_cert_accept.specs.Accepting.{Accepts}
+use Rattle.cpt_cert_accept.specs.Reading.{Outcome}
+use Rattle.cpt_cert_accept.specs.Descent.{ReadsAll}
+use Rattle.cpt_cert_accept.specs.Texts.{FirstFault}
 
 -- the text is a certificate of the task, in some version, with some claim
 abbrev pub IsACertificate : TaskShape → List ℕ → Type 0

@@ -18,7 +18,7 @@ use Rattle.cpt_outcome.specs.Nodes.{SearchProblem, search_tree}
 use Rattle.cpt_outcome.specs.Leaves.{occurrence_of, token_occurrences}
 use Rattle.cpt_outcome.specs.Outcomes.{IsPlanOfNode}
 use Rattle.cpt_cert_print.specs.Whole.{ComesBefore, IsListedPlan}
-use Rattle.cpt_verdict.specs.Accepting.{is_no_sooner, IsInOrder}
+use Rattle.cpt_cert_accept.specs.Accepting.{is_no_sooner, IsInOrder}
 
 -- none of them has more than n decisions
 abbrev AreUpTo : ℕ → List Node → Type 0

@@ -15,7 +15,7 @@ use Rattle.cpt_cert_form.specs.Text.{Parts}
 use Rattle.cpt_cert_print.specs.Whole.{AsksTree, AsksPartial, HasTables as HasTableParts, HasTree, IsTree, IsListedPlan, tables_in, lines_in, parts_of}
 use Rattle.cpt_cert_laws.proofs.LineForms.{HasParts, part_forms}
 use Rattle.cpt_cert_laws.proofs.TreeForms.{trees_are_short}
-use Rattle.cpt_verdict.specs.Accepting.{IsClosedAt, IsOpenAt, IsPlanOf, HasPairs, HasTables, Proves}
+use Rattle.cpt_cert_accept.specs.Accepting.{IsClosedAt, IsOpenAt, IsPlanOf, HasPairs, HasTables, Proves}
 use Rattle.cpt_evidence.specs.Evidence.{IsProvable, claim_of, plan_of, HasTexts, Tells}
 use Rattle.cpt_evidence.specs.Laws.{EvidenceIsWhole, EvidenceIsAccepted}
 use Rattle.cpt_evidence.proofs.Depths.{leaf_listed, nothing_listed, in_order}

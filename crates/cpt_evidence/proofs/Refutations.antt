@@ -16,8 +16,8 @@ use Rattle.cpt_outcome.specs.Nodes.{SearchProblem, search_tree, node_runs}
 use Rattle.cpt_outcome.specs.Outcomes.{goal_span}
 use Rattle.cpt_outcome.specs.Partial.{ends_visit, leaves_open}
 use Rattle.cpt_outcome.proofs.PartialLemmas.{written-count, open-counts}
-use Rattle.cpt_verdict.specs.Accepting.{is_done, is_left, IsClosedAt, IsOpenAt}
-use Rattle.cpt_verdict.specs.Trees.IsPart.{whole, close}
+use Rattle.cpt_cert_accept.specs.Accepting.{is_done, is_left, IsClosedAt, IsOpenAt}
+use Rattle.cpt_cert_accept.specs.Trees.IsPart.{whole, close}
 use Rattle.cpt_evidence.proofs.TreeTexts.{finished_tree, partial_tree}
 
 -- a closed tree at a bound, with no more nodes than a budget allows

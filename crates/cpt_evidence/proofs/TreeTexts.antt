@@ -25,9 +25,9 @@ use Rattle.cpt_tree.specs.Texts.{child_line, last_line, open_lines as lines_left
 use Rattle.cpt_tree.proofs.TextLemmas.{child_line-push}
 use Rattle.cpt_outcome.specs.Nodes.{SearchProblem, IsFreshAt, IsNodeEnd, search_tree, node_runs}
 use Rattle.cpt_outcome.proofs.NodeLemmas.{fresh-same, fresh-dead, fresh-closed}
-use Rattle.cpt_verdict.specs.Trees.{IsPart, IsTreeOver}
-use Rattle.cpt_verdict.specs.Trees.Part.{node, worked, branches}
-use Rattle.cpt_verdict.specs.Trees.IsPart.{left, whole, step, close, branch, none, child}
+use Rattle.cpt_cert_accept.specs.Trees.{IsPart, IsTreeOver}
+use Rattle.cpt_cert_accept.specs.Trees.Part.{node, worked, branches}
+use Rattle.cpt_cert_accept.specs.Trees.IsPart.{left, whole, step, close, branch, none, child}
 
 first_leafless : (f : Expansion) (fs : List Expansion) → HaveNoLeaf (f ∷ fs) → HaveNoLeaf (f ∷ []) × HaveNoLeaf fs
 first_leafless Closed fs h = (tt, h)

@@ -5,7 +5,7 @@ use Rattle.cpt_cert_print.specs.declared.cert.Cert.{Cert}
 use Rattle.cpt_cert_print.specs.Whole.{IsWhole}
 use Rattle.cpt_outcome.specs.Nodes.{SearchProblem}
 use Rattle.cpt_outcome.specs.Outcomes.{SearchOutcome, HasOutcome}
-use Rattle.cpt_verdict.specs.Accepting.{IsCertificate}
+use Rattle.cpt_cert_accept.specs.Accepting.{IsCertificate}
 use Rattle.cpt_evidence.specs.Evidence.{IsProvable, Tells, IsEvidence, claim_of, without_steps}
 
 -- a certificate that tells the outcome of a search is whole, as its printer asks

@@ -8,8 +8,9 @@ ghost use Rattle.cpt_explain.specs.Faults.{AreFaults};
 ghost use Rattle.cpt_explain.specs.Stages.{AreMetBy, goals, needs, pairs};
 
 use crate::gaps::first_gap;
-use crate::timeline::{action_at, end_at, holds, makespan_of};
-use cpt_task::{List, Memory, Occ, Task, Verdict, interfere};
+use cpt_task::{
+    List, Memory, Occ, Task, Verdict, action_at, end_at, holds, interfere, makespan_of,
+};
 use std::alloc::Global;
 
 fn overlap(task: &Task, o: &Occ, q: &Occ) -> bool

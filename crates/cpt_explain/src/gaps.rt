@@ -6,8 +6,7 @@ ghost use Rattle.cpt_task.specs.Judging.{IsFirstGap};
 ghost use Rattle.cpt_task.specs.Timeline.{end_of, HoldsFrom};
 ghost use Rattle.cpt_explain.specs.Losses.{is_lost, IsFirstLoss};
 
-use crate::timeline::{action_at, contains, end_at, holds, is_added_at};
-use cpt_task::{Occ, Task};
+use cpt_task::{Occ, Task, action_at, contains, end_at, holds, is_added_at};
 
 /// Whether the atom is deleted and not added where the occurrence ends.
 fn is_lost(task: &Task, plan: &[Occ], o: &Occ, p: u32) -> bool

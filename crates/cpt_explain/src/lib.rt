@@ -4,7 +4,6 @@
 mod finding;
 mod gaps;
 mod laws;
-mod timeline;
 
 pub use finding::faults;
 pub use laws::{no_faults_where_valid, one_fault_list};

@@ -5,8 +5,8 @@ use Rattle.cpt_reach.specs.declared.pruning.Pruned.{Pruned}
 use Rattle.cpt_reach.specs.Plans.{older_plan}
 use Rattle.cpt_cert_form.specs.declared.forms.Version.{Version}
 use Rattle.cpt_cert_form.specs.declared.forms.Claim.{Claim}
-use Rattle.cpt_verdict.specs.declared.faults.Why.{Why}
-use Rattle.cpt_verdict.specs.Laws.{HoldsOf}
+use Rattle.cpt_cert_accept.specs.declared.faults.Why.{Why}
+use Rattle.cpt_cert_accept.specs.Laws.{HoldsOf}
 use Rattle.cpt_counts.specs.declared.kinds.Counts.{Counts}
 use Rattle.cpt_counts.specs.Counting.{AreCounts}
 use Rattle.cpt_answer.specs.Endings.{Answer}

@@ -7,6 +7,6 @@ mod names;
 mod problems;
 
 pub use accepted::{Accepted, accepted_in};
-pub use files::{plan_in, task_in};
+pub use files::{plan_in, task_in, text_in};
 pub use names::KeptNames;
 pub use problems::Source;

@@ -11,41 +11,12 @@ ghost use Rattle.cpt_files.specs.Files.{read_ending, text_under};
 ghost use Rattle.cpt_json_files.specs.Validating.{AnswersReport, JudgesJson, JudgesOver, JudgesText, ValidatesJson};
 
 use crate::replies::{plan_reply, report_reply, task_reply};
-use cpt_answer::{Cause, Ending, Reply, tell};
-use cpt_io::{Library, ReadError, Sink, read_all};
+use cpt_answer::{Ending, Reply, tell};
+use cpt_files::text_in;
+use cpt_io::{Library, Sink};
 use cpt_json::{read_plan_json, read_task_json};
-use cpt_task::{Limit, Occ, Task, judge};
+use cpt_task::{Occ, Task, judge};
 use std::alloc::Global;
-
-/// The most bytes that a task or plan file may have.
-const FILE_LIMIT: u64 = 16_777_216;
-
-fn from_reading(e: ReadError) -> Ending
-    ensures value { result ≡ read_ending e }
-{
-    match e {
-        ReadError::Failed => Ending::Read,
-        ReadError::TooLong => Ending::Because(Cause::Passed(Limit::File)),
-        ReadError::Memory => Ending::Memory,
-    }
-}
-
-/// The text of the file under the name.
-fn text_in<L: Library>(alloc: Global, lib: &mut L, name: &str) -> Result<Vec<u8>, Ending>
-    requires { L.faults lib.old < 2 ^ 64 - 1 }
-    ensures same { L.holds lib.new ≡ L.holds lib.old }
-    ensures answer { IfSome (L.holds lib.old) (λ files. Gives (L.steady lib.old) (λ text. text.items) result (λ read. text_under files name.now ≡ read)) }
-    ensures short { IfOk result (λ text. length text.items ≤ 16777216) }
-    ensures failed { result ≡ Err Ending.Read → L.faults lib.old < L.faults lib.new }
-    ensures kept { result ≢ Err Ending.Read → L.faults lib.new ≡ L.faults lib.old }
-    ensures steady { IsTrue (L.steady lib.old) → IsTrue (L.steady lib.new) }
-    ensures end { OnOk result (IsSome (L.holds lib.old) → L.left lib.new ≡ Some []) }
-{
-    match read_all(alloc, lib, name, FILE_LIMIT) {
-        Ok(text) => Ok(text),
-        Err(e) => Err(from_reading(e)),
-    }
-}
 
 /// The verdict on the plan.
 fn judge_plan(alloc: Global, task: &Task, plan: &[Occ]) -> Result<Reply, Ending>

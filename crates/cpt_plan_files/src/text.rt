@@ -8,54 +8,10 @@ ghost use Rattle.cpt_plan_text.specs.Spelling.{IsInPrintOrder, IsTextOf, plan_sp
 ghost use Rattle.cpt_plan_files.specs.Texts.{critical_line, critical_lines, makespan_line, IsTightText};
 
 use cpt_line::push_decimal;
+use cpt_plan_text::text_of;
 use cpt_task::{Memory, Occ, Task};
 use cpt_tighten::tighten;
 use std::alloc::{AllocError, Global};
-
-fn push_line(text: &mut Vec<u8>, task: &Task, o: &Occ) -> Result<(), AllocError>
-    requires { IsOccurrence task.now o.now }
-    ensures { OnOk result (text.new.items ≡ text.old.items ++ spelled_line task.now o.now) }
-{
-    let action = &task.actions()[o.act as usize];
-    push_decimal(text, o.start)?;
-    text.extend_from_slice(b": ")?;
-    text.extend_from_slice(action.name.as_slice())?;
-    text.extend_from_slice(b" [")?;
-    push_decimal(text, u64::from(action.dur))?;
-    text.extend_from_slice(b"]")
-}
-
-/// The text of the occurrences in this order.
-fn spelling_of(alloc: Global, task: &Task, plan: &[Occ]) -> Result<Vec<u8>, AllocError>
-    requires { IsPlan task.now plan.now }
-    ensures { IfOk result (λ text. text.items ≡ plan_spelling task.now plan.now) }
-{
-    let mut text = Vec::new(alloc);
-    for o in plan {
-        push_line(&mut text, task, o)?;
-        text.push(b'\n')?;
-    }
-    Ok(text)
-}
-
-/// The occurrences by start, and then by action number.
-fn sorted_plan(alloc: Global, plan: &[Occ]) -> Result<Vec<Occ>, AllocError>
-    ensures permutation { IfOk result (λ sorted. IsPermutation plan.now sorted.items) }
-    ensures order { IfOk result (λ sorted. IsInPrintOrder sorted.items) }
-{
-    let mut sorted = Vec::from_slice(alloc, plan)?;
-    sorted.sort_by_key(|o| (o.start, o.act))?;
-    Ok(sorted)
-}
-
-/// The lines of the plan.
-fn plan_lines(alloc: Global, task: &Task, plan: &[Occ]) -> Result<Vec<u8>, AllocError>
-    requires { IsPlan task.now plan.now }
-    ensures { IfOk result (λ text. IsTextOf task.now plan.now text.items) }
-{
-    let sorted = sorted_plan(alloc, plan)?;
-    spelling_of(alloc, task, &sorted)
-}
 
 fn makespan_text(alloc: Global, makespan: u64) -> Result<Vec<u8>, AllocError>
     ensures { IfOk result (λ text. text.items ≡ makespan_line makespan) }
@@ -118,7 +74,7 @@ pub fn tight_text(alloc: Global, task: &Task, plan: &[Occ]) -> Result<Vec<u8>, M
     ensures { IfOk result (λ text. IsTightText task.now plan.now text.items) }
 {
     let tight = tighten(alloc, task, plan)?;
-    let mut text = plan_lines(alloc, task, tight.plan.as_slice())?;
+    let mut text = text_of(alloc, task, tight.plan.as_slice())?;
     let makespan = makespan_text(alloc, tight.makespan)?;
     text.extend_from_slice(&makespan)?;
     let critical = critical_text(alloc, task, tight.plan.as_slice(), tight.chain.as_slice())?;

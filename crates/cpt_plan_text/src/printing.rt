@@ -24,7 +24,7 @@ fn push_line(text: &mut Vec<u8>, task: &Task, o: &Occ) -> Result<(), AllocError>
 }
 
 /// The text of the occurrences in this order.
-fn spelling_of(alloc: Global, task: &Task, plan: &[Occ]) -> Result<Vec<u8>, AllocError>
+pub fn spelling_of(alloc: Global, task: &Task, plan: &[Occ]) -> Result<Vec<u8>, AllocError>
     requires { IsPlan task.now plan.now }
     ensures { IfOk result (λ text. text.items ≡ plan_spelling task.now plan.now) }
 {
@@ -46,7 +46,8 @@ fn sorted_plan(alloc: Global, plan: &[Occ]) -> Result<Vec<Occ>, AllocError>
     Ok(sorted)
 }
 
-fn text_of(alloc: Global, task: &Task, plan: &[Occ]) -> Result<Vec<u8>, AllocError>
+/// The text of the plan: its lines by start, and then by action number.
+pub fn text_of(alloc: Global, task: &Task, plan: &[Occ]) -> Result<Vec<u8>, AllocError>
     requires { IsPlan task.now plan.now }
     ensures { IfOk result (λ text. IsTextOf task.now plan.now text.items) }
 {

@@ -6,9 +6,9 @@ use Rattle.cpt_cert_form.specs.declared.forms.Version.{Version}
 use Rattle.cpt_cert_form.specs.declared.forms.Claim.{Claim}
 use Rattle.cpt_cert_form.specs.declared.forms.CertLine.{CertLine}
 use Rattle.cpt_cert_form.specs.declared.forms.CertLine.TheVariants as lines
-use Rattle.cpt_verdict.specs.declared.faults.Why.TheVariants as whys
-use Rattle.cpt_verdict.specs.Reading.{take_version, take_claim, take_sizes, take_plan, take_items, take_pairs, take_pair_rows, take_dists, take_dist_rows, take_end}
-use Rattle.cpt_verdict.specs.Reading.Outcome.{went, faulted}
+use Rattle.cpt_cert_accept.specs.declared.faults.Why.TheVariants as whys
+use Rattle.cpt_cert_accept.specs.Reading.{take_version, take_claim, take_sizes, take_plan, take_items, take_pairs, take_pair_rows, take_dists, take_dist_rows, take_end}
+use Rattle.cpt_cert_accept.specs.Reading.Outcome.{went, faulted}
 use Rattle.cpt_sections.specs.declared.section.Trees.{Trees}
 use Rattle.cpt_sections.specs.declared.section.Aim.{Aim}
 use Rattle.cpt_sections.specs.declared.section.Items.{Items}

@@ -12,10 +12,10 @@ use Rattle.cpt_cert_form.specs.declared.forms.Version.{Version}
 use Rattle.cpt_cert_form.specs.declared.forms.CertLine.{CertLine}
 use Rattle.cpt_cert_form.specs.declared.forms.CertLine.TheVariants as lines
 use Rattle.cpt_cert_form.specs.Forms.{IsWritten, capped_line}
-use Rattle.cpt_verdict.specs.declared.faults.Why.TheVariants as whys
-use Rattle.cpt_verdict.specs.Accepting.{IsPlanOf, is_no_sooner}
-use Rattle.cpt_verdict.specs.Reading.{Outcome, After, behind, take_plan, take_items, JudgesPlan}
-use Rattle.cpt_verdict.specs.Reading.Outcome.{went, faulted}
+use Rattle.cpt_cert_accept.specs.declared.faults.Why.TheVariants as whys
+use Rattle.cpt_cert_accept.specs.Accepting.{IsPlanOf, is_no_sooner}
+use Rattle.cpt_cert_accept.specs.Reading.{Outcome, After, behind, take_plan, take_items, JudgesPlan}
+use Rattle.cpt_cert_accept.specs.Reading.Outcome.{went, faulted}
 use Rattle.cpt_sections.specs.declared.section.Trees.TheVariants as trees
 use Rattle.cpt_sections.specs.declared.section.Aim.TheVariants as aims
 use Rattle.cpt_sections.specs.declared.section.Items.{Items}
@@ -23,7 +23,7 @@ use Rattle.cpt_sections.specs.declared.section.Section.{Section}
 use Rattle.cpt_sections.specs.declared.section.Section.TheVariants as sections
 use Rattle.cpt_sections.specs.declared.section.Next.{Next}
 use Rattle.cpt_sections.specs.declared.section.Next.TheVariants as nexts
-use Rattle.cpt_verdict.specs.Texts.{bring_in}
+use Rattle.cpt_cert_accept.specs.Texts.{bring_in}
 use Rattle.cpt_sections.specs.Sections.{Left, IsSection, HasFew, AreItems, IsLine, Moves, JudgesItems, BehindPlan}
 use Rattle.cpt_sections.specs.Plans.{CanStand, KeepsAlso, after_plan, IsPlanIn, EndsPlan, MayEnd, IsFirstItems, TakesItem}
 use Rattle.cpt_sections.specs.Proceeding.{Proceeds}

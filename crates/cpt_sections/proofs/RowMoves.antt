@@ -11,9 +11,9 @@ use Rattle.cpt_cert_form.specs.declared.forms.Version.{Version}
 use Rattle.cpt_cert_form.specs.declared.forms.Run.{Run}
 use Rattle.cpt_cert_form.specs.declared.forms.CertLine.{CertLine}
 use Rattle.cpt_cert_form.specs.declared.forms.CertLine.TheVariants as lines
-use Rattle.cpt_verdict.specs.declared.faults.Why.TheVariants as whys
-use Rattle.cpt_verdict.specs.Reading.{Outcome, After, behind, values_of, is_row, take_pair_rows, take_pairs, take_dist_rows, take_dists, take_end, pair_rows, dist_rows, JudgesPairs, JudgesDists}
-use Rattle.cpt_verdict.specs.Reading.Outcome.{went, faulted}
+use Rattle.cpt_cert_accept.specs.declared.faults.Why.TheVariants as whys
+use Rattle.cpt_cert_accept.specs.Reading.{Outcome, After, behind, values_of, is_row, take_pair_rows, take_pairs, take_dist_rows, take_dists, take_end, pair_rows, dist_rows, JudgesPairs, JudgesDists}
+use Rattle.cpt_cert_accept.specs.Reading.Outcome.{went, faulted}
 use Rattle.cpt_sections.specs.declared.section.Trees.{Trees}
 use Rattle.cpt_sections.specs.declared.section.Aim.{Aim}
 use Rattle.cpt_sections.specs.declared.section.Aim.TheVariants as aims
@@ -23,7 +23,7 @@ use Rattle.cpt_sections.specs.declared.section.Section.{Section}
 use Rattle.cpt_sections.specs.declared.section.Section.TheVariants as sections
 use Rattle.cpt_sections.specs.declared.section.Next.{Next}
 use Rattle.cpt_sections.specs.declared.section.Next.TheVariants as nexts
-use Rattle.cpt_verdict.specs.Texts.{bring_in}
+use Rattle.cpt_cert_accept.specs.Texts.{bring_in}
 use Rattle.cpt_sections.specs.Sections.{Left, Moves, BehindPairs, ReadsPairRows, ReadsDistRows, ReadsTrees, first_pair_rows, first_dist_rows}
 use Rattle.cpt_sections.specs.Proceeding.{Proceeds, ArePairRowsSoFar, AreDistRowsSoFar}
 

@@ -7,10 +7,10 @@ use Rattle.cpt_cert_form.specs.declared.forms.Claim.TheVariants as claims
 use Rattle.cpt_cert_form.specs.declared.forms.CertLine.{CertLine}
 use Rattle.cpt_cert_form.specs.declared.forms.CertLine.TheVariants as lines
 use Rattle.cpt_cert_form.specs.Forms.{IsClaim}
-use Rattle.cpt_verdict.specs.declared.faults.Why.TheVariants as whys
-use Rattle.cpt_verdict.specs.Reading.{Outcome, take_sizes}
-use Rattle.cpt_verdict.specs.Reading.Outcome.{went, faulted}
-use Rattle.cpt_verdict.specs.Descent.{ReadsSections}
+use Rattle.cpt_cert_accept.specs.declared.faults.Why.TheVariants as whys
+use Rattle.cpt_cert_accept.specs.Reading.{Outcome, take_sizes}
+use Rattle.cpt_cert_accept.specs.Reading.Outcome.{went, faulted}
+use Rattle.cpt_cert_accept.specs.Descent.{ReadsSections}
 use Rattle.cpt_walk.proofs.Turning.{more_few}
 use Rattle.cpt_sections.specs.declared.section.Section.{Section}
 use Rattle.cpt_sections.specs.declared.section.Section.TheVariants as sections
@@ -20,7 +20,7 @@ use Rattle.cpt_sections.specs.declared.section.Next.TheVariants as nexts
 use Rattle.cpt_sections.specs.declared.section.Stage.TheVariants as stages
 use Rattle.cpt_sections.specs.declared.section.Turned.{Turned}
 use Rattle.cpt_sections.specs.declared.section.Turned.TheVariants as turns
-use Rattle.cpt_verdict.specs.Texts.{bring_in}
+use Rattle.cpt_cert_accept.specs.Texts.{bring_in}
 use Rattle.cpt_sections.specs.Sections.{Left, IsSection, HasFew, Moves}
 use Rattle.cpt_sections.specs.Stages.{IsStage, HasFewAt, Turns, first_section, turned}
 

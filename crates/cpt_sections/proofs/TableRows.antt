@@ -11,7 +11,7 @@ use Rattle.cpt_tables.specs.Shapes.{PairShape, DistShape, FitsPairs, FitsDists, 
 use Rattle.cpt_cert_form.specs.declared.forms.Version.{Version}
 use Rattle.cpt_cert_form.specs.declared.forms.Run.{Run}
 use Rattle.cpt_cert_form.specs.Text.{pair_row, dist_row}
-use Rattle.cpt_verdict.specs.Reading.{values_of, is_form, is_row}
+use Rattle.cpt_cert_accept.specs.Reading.{values_of, is_form, is_row}
 use Rattle.cpt_walk.specs.Puts.{PutsPairs, PutsDists}
 use Rattle.cpt_sections.specs.Sections.{first_pair_rows, first_dist_rows}
 

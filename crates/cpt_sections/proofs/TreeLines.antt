@@ -14,14 +14,14 @@ use Rattle.cpt_calculus.specs.Root.{root_of}
 use Rattle.cpt_cert_form.specs.declared.forms.Version.{Version}
 use Rattle.cpt_cert_form.specs.declared.forms.CertLine.{CertLine}
 use Rattle.cpt_cert_form.specs.declared.forms.CertLine.TheVariants as lines
-use Rattle.cpt_verdict.specs.declared.faults.Why.{Why}
-use Rattle.cpt_verdict.specs.declared.faults.Why.TheVariants as whys
-use Rattle.cpt_verdict.specs.Accepting.{is_done, is_left}
-use Rattle.cpt_verdict.specs.Trees.{Part, bring_of}
-use Rattle.cpt_verdict.specs.Trees.Part.{node, branches}
-use Rattle.cpt_verdict.specs.Reading.{Outcome, After, Then, behind, take_tree, take_open_tree, take_end}
-use Rattle.cpt_verdict.specs.Reading.Outcome.{went, faulted}
-use Rattle.cpt_verdict.specs.Descent.{Reads, ReadsTree, begins_left, begins_work, begins_child, is_counted, take_counted_end}
+use Rattle.cpt_cert_accept.specs.declared.faults.Why.{Why}
+use Rattle.cpt_cert_accept.specs.declared.faults.Why.TheVariants as whys
+use Rattle.cpt_cert_accept.specs.Accepting.{is_done, is_left}
+use Rattle.cpt_cert_accept.specs.Trees.{Part, bring_of}
+use Rattle.cpt_cert_accept.specs.Trees.Part.{node, branches}
+use Rattle.cpt_cert_accept.specs.Reading.{Outcome, After, Then, behind, take_tree, take_open_tree, take_end}
+use Rattle.cpt_cert_accept.specs.Reading.Outcome.{went, faulted}
+use Rattle.cpt_cert_accept.specs.Descent.{Reads, ReadsTree, begins_left, begins_work, begins_child, is_counted, take_counted_end}
 use Rattle.cpt_walk.specs.declared.walk.Frame.{Frame}
 use Rattle.cpt_walk.specs.declared.walk.Place.{Place}
 use Rattle.cpt_walk.specs.declared.walk.Place.TheVariants.{Node, Worked, Behind}

@@ -3,8 +3,8 @@ use Rattle.std.specs.Global.{Global}
 use Rattle.cpt_task.specs.declared.plan.Occ.{Occ}
 use Rattle.cpt_task.specs.Shape.{TaskShape}
 use Rattle.cpt_task.specs.Timeline.{IsOccurrence}
-use Rattle.cpt_verdict.specs.declared.faults.Why.TheVariants as whys
-use Rattle.cpt_verdict.specs.Accepting.{IsPlanOf}
+use Rattle.cpt_cert_accept.specs.declared.faults.Why.TheVariants as whys
+use Rattle.cpt_cert_accept.specs.Accepting.{IsPlanOf}
 use Rattle.cpt_sections.specs.declared.section.Trees.TheVariants as trees
 use Rattle.cpt_sections.specs.declared.section.Aim.TheVariants as aims
 use Rattle.cpt_sections.specs.declared.section.Items.{Items}

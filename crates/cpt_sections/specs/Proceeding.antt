@@ -3,8 +3,8 @@ use Rattle.cpt_task.specs.Shape.{TaskShape}
 use Rattle.cpt_tables.specs.Shapes.{FitsPairs, FitsDists, IsWholePairs, IsWholeDists}
 use Rattle.cpt_cert_form.specs.declared.forms.Version.{Version}
 use Rattle.cpt_cert_form.specs.declared.forms.CertLine.{CertLine}
-use Rattle.cpt_verdict.specs.Reading.{Outcome}
-use Rattle.cpt_verdict.specs.Reading.Outcome.{faulted}
+use Rattle.cpt_cert_accept.specs.Reading.{Outcome}
+use Rattle.cpt_cert_accept.specs.Reading.Outcome.{faulted}
 use Rattle.cpt_sections.specs.declared.section.PairRows.{PairRows}
 use Rattle.cpt_sections.specs.declared.section.DistRows.{DistRows}
 use Rattle.cpt_sections.specs.declared.section.Next.{Next}

@@ -14,14 +14,14 @@ use Rattle.cpt_cert_form.specs.declared.forms.CertLine.{CertLine}
 use Rattle.cpt_cert_form.specs.declared.forms.CertLine.TheVariants as lines
 use Rattle.cpt_cert_form.specs.Forms.{IsReadAs}
 use Rattle.cpt_cert_form.specs.Text.{pair_row, dist_row}
-use Rattle.cpt_verdict.specs.declared.faults.Why.TheVariants as whys
-use Rattle.cpt_verdict.specs.Accepting.{is_done, is_left}
+use Rattle.cpt_cert_accept.specs.declared.faults.Why.TheVariants as whys
+use Rattle.cpt_cert_accept.specs.Accepting.{is_done, is_left}
 use Rattle.std.specs.Prelude.{count_by}
-use Rattle.cpt_verdict.specs.Reading.{Outcome, Then, take_items, ReadsPlan, JudgesPlan, take_pair_rows, take_dist_rows, JudgesPairs, JudgesDists, ReadsPairs, ReadsDists, JudgesGoal, take_end}
-use Rattle.cpt_verdict.specs.Reading.Outcome.{went, faulted}
-use Rattle.cpt_verdict.specs.Descent.{ReadsOpenTree, ReadsLastTree, ReadsTwoTrees, take_counted_end}
+use Rattle.cpt_cert_accept.specs.Reading.{Outcome, Then, take_items, ReadsPlan, JudgesPlan, take_pair_rows, take_dist_rows, JudgesPairs, JudgesDists, ReadsPairs, ReadsDists, JudgesGoal, take_end}
+use Rattle.cpt_cert_accept.specs.Reading.Outcome.{went, faulted}
+use Rattle.cpt_cert_accept.specs.Descent.{ReadsOpenTree, ReadsLastTree, ReadsTwoTrees, take_counted_end}
 use Rattle.cpt_walk.specs.declared.walk.Walk.{Walk}
-use Rattle.cpt_verdict.specs.Texts.{bring_in}
+use Rattle.cpt_cert_accept.specs.Texts.{bring_in}
 use Rattle.cpt_walk.specs.Walks.{ReadsParts, parts_left, IsWalk, IsUnread, AreFew}
 use Rattle.cpt_sections.specs.declared.section.Trees.{Trees}
 use Rattle.cpt_sections.specs.declared.section.Trees.TheVariants as trees

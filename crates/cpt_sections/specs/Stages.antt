@@ -6,11 +6,11 @@ use Rattle.cpt_cert_form.specs.declared.forms.Claim.TheVariants as claims
 use Rattle.cpt_cert_form.specs.declared.forms.CertLine.{CertLine}
 use Rattle.cpt_cert_form.specs.declared.forms.CertLine.TheVariants as lines
 use Rattle.cpt_cert_form.specs.Forms.{IsClaim}
-use Rattle.cpt_verdict.specs.declared.faults.Why.{Why}
-use Rattle.cpt_verdict.specs.declared.faults.Why.TheVariants as whys
-use Rattle.cpt_verdict.specs.Reading.{Outcome, Then, take_version, take_claim}
-use Rattle.cpt_verdict.specs.Reading.Outcome.{went, faulted}
-use Rattle.cpt_verdict.specs.Descent.{ReadsBody}
+use Rattle.cpt_cert_accept.specs.declared.faults.Why.{Why}
+use Rattle.cpt_cert_accept.specs.declared.faults.Why.TheVariants as whys
+use Rattle.cpt_cert_accept.specs.Reading.{Outcome, Then, take_version, take_claim}
+use Rattle.cpt_cert_accept.specs.Reading.Outcome.{went, faulted}
+use Rattle.cpt_cert_accept.specs.Descent.{ReadsBody}
 use Rattle.cpt_sections.specs.declared.section.Stage.{Stage}
 use Rattle.cpt_sections.specs.declared.section.Stage.TheVariants as stages
 use Rattle.cpt_sections.specs.declared.section.Turned.{Turned}
@@ -21,7 +21,7 @@ use Rattle.cpt_sections.specs.declared.section.Section.{Section}
 use Rattle.cpt_sections.specs.declared.section.Section.TheVariants as sections
 use Rattle.cpt_sections.specs.declared.section.Next.{Next}
 use Rattle.cpt_sections.specs.declared.section.Next.TheVariants as nexts
-use Rattle.cpt_verdict.specs.Texts.{bring_in}
+use Rattle.cpt_cert_accept.specs.Texts.{bring_in}
 use Rattle.cpt_sections.specs.Sections.{Left, IsSection, HasFew, IsNothing}
 
 -- how the reading of what is still to be read of a certificate ends, from line n on

@@ -3,15 +3,15 @@
 ghost use Rattle.std.specs.Prelude.{◌≡◌, ◌≤◌, ◌<◌, ◌^◌, ℕ, length, MatchBool, IfOk};
 ghost use Rattle.cpt_task.specs.Judgeable.{IsJudgeable};
 ghost use Rattle.cpt_cert_form.specs.declared.forms.Version.{Version};
-ghost use Rattle.cpt_verdict.specs.Accepting.{IsPlanOf, is_no_sooner};
+ghost use Rattle.cpt_cert_accept.specs.Accepting.{IsPlanOf, is_no_sooner};
 ghost use Rattle.cpt_sections.specs.Plans.{IsKept, KeepsAlso, EndsPlan, after_plan, MayEnd, IsFirstItems, TakesItem};
 ghost use Rattle.cpt_sections.specs.Proceeding.{Proceeds};
 ghost use Rattle.cpt_sections.specs.Sections.{Left, IsSection, IsLine, Moves};
 
 use crate::section::{Aim, Items, Next, Section, Trees};
+use cpt_cert_accept::Why;
 use cpt_cert_read::CertLine;
 use cpt_task::{Memory, Occ, Task, Verdict, judge};
-use cpt_verdict::Why;
 use std::alloc::Global;
 
 /// The occurrences are a valid plan with this makespan.

@@ -1,9 +1,9 @@
 //! What of a certificate is still to be read.
 
+use cpt_cert_accept::Why;
 use cpt_cert_read::{Claim, Version};
 use cpt_tables::{DistTable, PairTable, Tables};
 use cpt_task::Occ;
-use cpt_verdict::Why;
 use cpt_walk::Walk;
 use std::alloc::Global;
 

@@ -12,9 +12,9 @@ use crate::tabling::{at_dist_row, at_dists, at_pair_row, at_pairs};
 use crate::treeing::{
     at_counted_end, at_end, at_node, at_nothing, at_open_node, at_open_tree, at_tree,
 };
+use cpt_cert_accept::Why;
 use cpt_cert_read::{CertLine, Claim, Version};
 use cpt_task::{Memory, Task};
-use cpt_verdict::Why;
 use std::alloc::Global;
 
 /// What a line leads to that is none of those that may stand there.

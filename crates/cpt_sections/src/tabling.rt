@@ -3,16 +3,16 @@
 ghost use Rattle.std.specs.Prelude.{◌≡◌, ◌≢◌, ◌+◌, ℕ, ◌<◌, ◌≤◌, ◌^◌, length, All, IfOk, MatchBool};
 ghost use Rattle.cpt_tables.specs.Shapes.{FitsPairs, FitsDists, IsWholePairs, IsWholeDists, set_span_of};
 ghost use Rattle.cpt_cert_form.specs.Forms.{IsRun};
-ghost use Rattle.cpt_verdict.specs.Reading.{values_of};
+ghost use Rattle.cpt_cert_accept.specs.Reading.{values_of};
 ghost use Rattle.cpt_walk.specs.Puts.{PutsPairs, PutsDists};
 ghost use Rattle.cpt_sections.specs.Sections.{Left, BehindPairs, IsAim, IsSection, IsLine, Moves};
 ghost use Rattle.cpt_sections.specs.Proceeding.{Proceeds, ArePairRowsSoFar, AreDistRowsSoFar};
 
 use crate::section::{Aim, DistRows, Next, PairRows, Section, Trees};
+use cpt_cert_accept::Why;
 use cpt_cert_read::{CertLine, Run, Version};
 use cpt_tables::{DistTable, PairTable, Tables, admissible_dists, admissible_pairs, set_span};
 use cpt_task::{Memory, Span, Task};
-use cpt_verdict::Why;
 use cpt_walk::{is_row, put_dist_row, put_pair_row};
 use std::alloc::Global;
 

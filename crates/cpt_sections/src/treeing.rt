@@ -6,17 +6,17 @@ ghost use Rattle.cpt_sheet.specs.Gaps.{FitsTask};
 ghost use Rattle.cpt_calculus.specs.Root.{root_of};
 ghost use Rattle.cpt_cert_form.specs.declared.forms.CertLine.{CertLine};
 ghost use Rattle.cpt_cert_form.specs.declared.forms.Version.{Version};
-ghost use Rattle.cpt_verdict.specs.Trees.Part.{node};
+ghost use Rattle.cpt_cert_accept.specs.Trees.Part.{node};
 ghost use Rattle.cpt_walk.specs.Walks.{parts_left, IsUnread, AreFew};
 ghost use Rattle.cpt_sections.specs.Behind.{first_bound, behind_tree};
 ghost use Rattle.cpt_sections.specs.Sections.{AreNodesLeft, IsSection, Moves};
 
 use crate::section::{Next, Section, Trees};
 use cpt_calculus::root;
+use cpt_cert_accept::Why;
 use cpt_cert_read::CertLine;
 use cpt_tables::Tables;
 use cpt_task::{Memory, Task};
-use cpt_verdict::Why;
 use cpt_walk::{Turn, Walk, begin_tree, is_read, take_node};
 use std::alloc::Global;
 

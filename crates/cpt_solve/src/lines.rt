@@ -9,37 +9,11 @@ ghost use Rattle.cpt_solve.specs.Lines.{makespan_line, no_plan_up_to_line, nodes
 ghost use Rattle.cpt_solve.specs.Searches.{HasPlan};
 
 use cpt_answer::Reply;
-use cpt_line::push_decimal;
 use cpt_options::Budget;
+use cpt_plan_text::spelling_of;
 use cpt_search::Outcome;
 use cpt_task::{Occ, Task};
 use std::alloc::{AllocError, Global};
-
-fn push_line(text: &mut Vec<u8>, task: &Task, o: &Occ) -> Result<(), AllocError>
-    requires { IsOccurrence task.now o.now }
-    ensures { OnOk result (text.new.items ≡ text.old.items ++ spelled_line task.now o.now) }
-{
-    let action = &task.actions()[o.act as usize];
-    push_decimal(text, o.start)?;
-    text.extend_from_slice(b": ")?;
-    text.extend_from_slice(action.name.as_slice())?;
-    text.extend_from_slice(b" [")?;
-    push_decimal(text, u64::from(action.dur))?;
-    text.extend_from_slice(b"]")
-}
-
-/// The lines of the plan, in its order.
-fn spelling_of(alloc: Global, task: &Task, plan: &[Occ]) -> Result<Vec<u8>, AllocError>
-    requires { IsPlan task.now plan.now }
-    ensures { IfOk result (λ text. text.items ≡ plan_spelling task.now plan.now) }
-{
-    let mut text = Vec::new(alloc);
-    for o in plan {
-        push_line(&mut text, task, o)?;
-        text.push(b'\n')?;
-    }
-    Ok(text)
-}
 
 fn makespan_line(alloc: Global, makespan: u64) -> Result<String, AllocError>
     ensures { IfOk result (λ text. string_bytes text ≡ makespan_line makespan) }

@@ -38,7 +38,7 @@ pub record InBounds (t : TaskShape) : Type 0 where
   pub goal : All (λ p. p < length t.atoms) t.goal
 
 -- an action's lists are sets: each is strictly increasing
-pub record HasSets (a : Action) : Type 0 where
+pub record HasSetLists (a : Action) : Type 0 where
   pub pre : IsStrictlyIncreasing a.pre
   pub add : IsStrictlyIncreasing a.add
   pub dele : IsStrictlyIncreasing a.dele

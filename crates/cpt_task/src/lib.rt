@@ -24,3 +24,4 @@ pub use plan::{Occ, Verdict, interfere, judge};
 pub use span::Span;
 pub use steps::Steps;
 pub use task::{Action, BuildError, Task};
+pub use timeline::{action_at, contains, end_at, holds, is_added_at, makespan_of};

@@ -172,7 +172,7 @@ fn has_company(
     begun.saturating_sub(ended) > own
 }
 
-/// Whether one of these atoms, which the occurrence `i` has in its list, another that overlaps it has in the list of the role.
+/// Whether one of these atoms, which the occurrence `i` has in one of its lists, stands in the list of the role of another occurrence that overlaps `i`.
 pub fn some_has_company(
     task: &Task,
     plan: &[Occ],

@@ -3,7 +3,7 @@
 ghost use Rattle.std.specs.Prelude.{◌≡◌, ◌↔◌, ◌<◌, ◌≤◌, ◌^◌, IsTrue, MatchBool, MatchOption, length, vec_len, All};
 ghost use Rattle.std.specs.List.Sorted.{IsStrictlyIncreasing};
 ghost use Rattle.cpt_task.specs.Building.{Builds, IsFault, made_of};
-ghost use Rattle.cpt_task.specs.Shape.{InBounds, IsOfSets, HasSets, HasBadAtom, ActionHasBadAtom, HasAtomsBelow, IsDuration, IsFirstAt};
+ghost use Rattle.cpt_task.specs.Shape.{InBounds, IsOfSets, HasSetLists, HasBadAtom, ActionHasBadAtom, HasAtomsBelow, IsDuration, IsFirstAt};
 
 use crate::ids::Ids;
 use crate::limits::DURATION_LIMIT;
@@ -114,13 +114,13 @@ fn has_bad_atom(count: usize, xs: &Ids) -> bool
 }
 
 fn action_has_bad_atom(count: usize, a: &Action) -> bool
-    ensures { MatchBool result (ActionHasBadAtom count a.now) (HasAtomsBelow count a.now × HasSets a.now) }
+    ensures { MatchBool result (ActionHasBadAtom count a.now) (HasAtomsBelow count a.now × HasSetLists a.now) }
 {
     has_bad_atom(count, &a.pre) || has_bad_atom(count, &a.add) || has_bad_atom(count, &a.dele)
 }
 
 fn first_bad_action(count: usize, actions: &[Action]) -> Option<usize>
-    ensures { MatchOption result (All (λ a. HasAtomsBelow count a × HasSets a) actions.now) (IsFirstAt (ActionHasBadAtom count) actions.now) }
+    ensures { MatchOption result (All (λ a. HasAtomsBelow count a × HasSetLists a) actions.now) (IsFirstAt (ActionHasBadAtom count) actions.now) }
 {
     actions.iter().position(|a| action_has_bad_atom(count, a))
 }

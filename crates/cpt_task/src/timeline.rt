@@ -23,6 +23,7 @@ pub fn action_at<'a>(task: &'a Task, o: &Occ) -> &'a Action
 pub fn end_at(task: &Task, o: &Occ) -> u64
     requires { IsJudgeableAt task.now o.now }
     ensures end { result ≡ end_of task.now o.now }
+    ensures lasting { o.now.start < result }
     ensures small { result ≤ 1000000100000 }
 {
     o.start + u64::from(action_at(task, o).dur)

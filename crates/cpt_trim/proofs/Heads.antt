@@ -15,8 +15,8 @@ use Rattle.cpt_cert_read.specs.Lines.{HasNoEnd}
 use Rattle.cpt_cert_read.specs.Texts.{ended}
 use Rattle.cpt_cert_read.proofs.Meaning.{one_meaning}
 use Rattle.cpt_cert_read.proofs.Splits.{split_once}
-use Rattle.cpt_verdict.specs.Accepting.{IsInForm, Accepts}
-use Rattle.cpt_verdict.proofs.Feedless.{feedless}
+use Rattle.cpt_cert_accept.specs.Accepting.{IsInForm, Accepts}
+use Rattle.cpt_cert_accept.proofs.Feedless.{feedless}
 use Rattle.cpt_trim.specs.declared.fates.Fate.{Fate}
 use Rattle.cpt_trim.specs.declared.fates.Fate.TheVariants.{Fixed, Kept, Dropped}
 use Rattle.cpt_trim.specs.Fates.{Befits, is_dropped, left_of, text_of}

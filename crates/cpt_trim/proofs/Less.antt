@@ -9,9 +9,9 @@ use Rattle.cpt_line.specs.Lines.{split}
 use Rattle.cpt_cert_form.specs.declared.forms.Version.{Version}
 use Rattle.cpt_cert_form.specs.declared.forms.Claim.{Claim}
 use Rattle.cpt_cert_read.specs.Texts.{ended}
-use Rattle.cpt_verdict.specs.declared.faults.Why.{Why}
-use Rattle.cpt_verdict.specs.Accepting.{Accepts}
-use Rattle.cpt_verdict.proofs.OneText.{no_fault}
+use Rattle.cpt_cert_accept.specs.declared.faults.Why.{Why}
+use Rattle.cpt_cert_accept.specs.Accepting.{Accepts}
+use Rattle.cpt_cert_accept.proofs.OneText.{no_fault}
 use Rattle.cpt_check.specs.declared.judged.Judged.{Judged}
 use Rattle.cpt_check.specs.declared.judged.Ruling.TheVariants.{Accepted, Rejected}
 use Rattle.cpt_check.specs.Judging.{IsRejected, RulesOf}

@@ -4,7 +4,7 @@ use Rattle.std.specs.List.Sorted.{IsStrictlyIncreasing}
 use Rattle.cpt_task.specs.Shape.{TaskShape}
 use Rattle.cpt_cert_form.specs.declared.forms.Version.{Version}
 use Rattle.cpt_cert_form.specs.declared.forms.Claim.{Claim}
-use Rattle.cpt_verdict.specs.Accepting.{Accepts}
+use Rattle.cpt_cert_accept.specs.Accepting.{Accepts}
 use Rattle.cpt_check.specs.Judging.{IsRejected}
 use Rattle.cpt_trim.specs.declared.trimmed.Trimmed.{Trimmed}
 use Rattle.cpt_trim.specs.declared.trimmed.TrimError.{TrimError}

@@ -9,7 +9,7 @@ use Rattle.cpt_cert_form.specs.declared.forms.Claim.{Claim}
 use Rattle.cpt_cert_form.specs.declared.forms.CertLine.TheVariants as lines
 use Rattle.cpt_cert_form.specs.Forms.{IsReadAs}
 use Rattle.cpt_cert_read.specs.Texts.{ended}
-use Rattle.cpt_verdict.specs.Accepting.{Accepts}
+use Rattle.cpt_cert_accept.specs.Accepting.{Accepts}
 
 -- the lines without those of these numbers, where the first has number n
 abbrev pub without_from : ℕ → List ℕ → List (List ℕ) → List (List ℕ)

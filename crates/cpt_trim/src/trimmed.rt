@@ -3,9 +3,9 @@
 ghost use Rattle.std.specs.Prelude.{◌≡◌};
 ghost use Rattle.cpt_trim.specs.declared.trimmed.TrimError.{TrimError};
 
+use cpt_cert_accept::Why;
 use cpt_cert_form::{Claim, Version};
 use cpt_task::{List, Memory};
-use cpt_verdict::Why;
 
 /// A certificate that is trimmed.
 #[derive(Drop)]

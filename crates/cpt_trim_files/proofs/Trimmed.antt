@@ -5,8 +5,8 @@ use Rattle.cpt_task.specs.Shape.{TaskShape, InBounds}
 use Rattle.cpt_reach.specs.declared.pruning.Pruned.{Pruned}
 use Rattle.cpt_cert_form.specs.declared.forms.Version.{Version}
 use Rattle.cpt_cert_form.specs.declared.forms.Claim.{Claim}
-use Rattle.cpt_verdict.specs.declared.faults.Why.{Why}
-use Rattle.cpt_verdict.proofs.OneText.{no_fault}
+use Rattle.cpt_cert_accept.specs.declared.faults.Why.{Why}
+use Rattle.cpt_cert_accept.proofs.OneText.{no_fault}
 use Rattle.cpt_check.specs.declared.judged.Judged.{Judged}
 use Rattle.cpt_check.specs.Judging.{IsRejected}
 use Rattle.cpt_trim.specs.Trimming.{IsTrimmed, trim_limit}

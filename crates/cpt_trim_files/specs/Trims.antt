@@ -3,7 +3,7 @@ use Rattle.cpt_io.specs.Meaning.{Files}
 use Rattle.cpt_task.specs.Shape.{TaskShape}
 use Rattle.cpt_cert_form.specs.declared.forms.Version.{Version}
 use Rattle.cpt_cert_form.specs.declared.forms.Claim.{Claim}
-use Rattle.cpt_verdict.specs.declared.faults.Why.{Why}
+use Rattle.cpt_cert_accept.specs.declared.faults.Why.{Why}
 use Rattle.cpt_check.specs.Judging.{IsRejected}
 use Rattle.cpt_trim.specs.Trimming.{IsTrimmed, trim_limit}
 use Rattle.cpt_trim.specs.Without.{without}

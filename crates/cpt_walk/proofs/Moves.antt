@@ -14,14 +14,14 @@ use Rattle.cpt_calculus.specs.Decisions.{applied}
 use Rattle.cpt_calculus.specs.Flaws.{IsFlaw, children}
 use Rattle.cpt_cert_form.specs.declared.forms.CertLine.{CertLine}
 use Rattle.cpt_cert_form.specs.declared.forms.CertLine.TheVariants as lines
-use Rattle.cpt_verdict.specs.declared.faults.Why.{Why}
-use Rattle.cpt_verdict.specs.declared.faults.Why.TheVariants as whys
-use Rattle.cpt_verdict.specs.Trees.{Part}
-use Rattle.cpt_verdict.specs.Trees.Part.{node, worked, branches}
-use Rattle.cpt_verdict.specs.Reading.{Outcome, After, behind}
-use Rattle.cpt_verdict.specs.Reading.Outcome.{went, faulted}
-use Rattle.cpt_verdict.specs.Descent.{Reads, begins_left, begins_work, begins_child}
-use Rattle.cpt_verdict.specs.Descent.Reads.{left, whole, step, illegal, close, alive, branch, flawless, strange, none, child, inside, other, childless}
+use Rattle.cpt_cert_accept.specs.declared.faults.Why.{Why}
+use Rattle.cpt_cert_accept.specs.declared.faults.Why.TheVariants as whys
+use Rattle.cpt_cert_accept.specs.Trees.{Part}
+use Rattle.cpt_cert_accept.specs.Trees.Part.{node, worked, branches}
+use Rattle.cpt_cert_accept.specs.Reading.{Outcome, After, behind}
+use Rattle.cpt_cert_accept.specs.Reading.Outcome.{went, faulted}
+use Rattle.cpt_cert_accept.specs.Descent.{Reads, begins_left, begins_work, begins_child}
+use Rattle.cpt_cert_accept.specs.Descent.Reads.{left, whole, step, illegal, close, alive, branch, flawless, strange, none, child, inside, other, childless}
 use Rattle.cpt_walk.specs.Walks.{ReadsParts}
 
 module _ (t : TaskShape) (b : Tables) (mo : Bool) where

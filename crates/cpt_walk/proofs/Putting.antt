@@ -9,7 +9,7 @@ use Rattle.cpt_task.specs.declared.span.Span.TheVariants.{At, Never}
 use Rattle.cpt_tables.specs.Spans.{IsBelow}
 use Rattle.cpt_tables.specs.Shapes.{PairShape, DistShape, pair_at, dist_at, IsSamePair, SetsPair, SetsDist, IsSmallPairs, IsSmallDists}
 use Rattle.cpt_cert_form.specs.declared.forms.Run.{Run}
-use Rattle.cpt_verdict.specs.Reading.{values_of}
+use Rattle.cpt_cert_accept.specs.Reading.{values_of}
 use Rattle.cpt_walk.specs.Puts.{PutsPairs, PutsDists}
 
 -- what is read behind the last run

@@ -27,13 +27,13 @@ use Rattle.cpt_calculus.specs.Flaws.{IsFlaw, children, choice}
 use Rattle.cpt_soundness.proofs.FitLemmas.{children_fit}
 use Rattle.cpt_cert_form.specs.declared.forms.CertLine.{CertLine}
 use Rattle.cpt_cert_form.specs.declared.forms.CertLine.TheVariants as lines
-use Rattle.cpt_verdict.specs.declared.faults.Why.TheVariants as whys
-use Rattle.cpt_verdict.specs.Trees.{Part, bring_of}
-use Rattle.cpt_verdict.specs.Trees.Part.{node, worked, branches}
-use Rattle.cpt_verdict.specs.Reading.{behind}
-use Rattle.cpt_verdict.specs.Reading.Outcome.{faulted}
-use Rattle.cpt_verdict.specs.Descent.{begins_left, begins_child}
-use Rattle.cpt_verdict.proofs.Brings.{count_narrowed, count_applied}
+use Rattle.cpt_cert_accept.specs.declared.faults.Why.TheVariants as whys
+use Rattle.cpt_cert_accept.specs.Trees.{Part, bring_of}
+use Rattle.cpt_cert_accept.specs.Trees.Part.{node, worked, branches}
+use Rattle.cpt_cert_accept.specs.Reading.{behind}
+use Rattle.cpt_cert_accept.specs.Reading.Outcome.{faulted}
+use Rattle.cpt_cert_accept.specs.Descent.{begins_left, begins_child}
+use Rattle.cpt_cert_accept.proofs.Brings.{count_narrowed, count_applied}
 use Rattle.cpt_walk.specs.declared.walk.Frame.{Frame}
 use Rattle.cpt_walk.specs.declared.walk.Place.{Place}
 use Rattle.cpt_walk.specs.declared.walk.Place.TheVariants.{Node, Worked, Behind}

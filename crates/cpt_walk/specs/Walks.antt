@@ -9,13 +9,13 @@ use Rattle.cpt_sheet.specs.Formed.{IsFormed}
 use Rattle.cpt_calculus.specs.Decisions.{Fits}
 use Rattle.cpt_cert_form.specs.declared.forms.CertLine.{CertLine}
 use Rattle.cpt_cert_form.specs.declared.forms.CertLine.TheVariants as lines
-use Rattle.cpt_verdict.specs.declared.faults.Why.{Why}
-use Rattle.cpt_verdict.specs.Accepting.{is_done, is_left}
-use Rattle.cpt_verdict.specs.Trees.{Part, bring_of}
-use Rattle.cpt_verdict.specs.Trees.Part.{node, worked, branches}
-use Rattle.cpt_verdict.specs.Reading.{Outcome, After, behind}
-use Rattle.cpt_verdict.specs.Reading.Outcome.{went, faulted}
-use Rattle.cpt_verdict.specs.Descent.{Reads}
+use Rattle.cpt_cert_accept.specs.declared.faults.Why.{Why}
+use Rattle.cpt_cert_accept.specs.Accepting.{is_done, is_left}
+use Rattle.cpt_cert_accept.specs.Trees.{Part, bring_of}
+use Rattle.cpt_cert_accept.specs.Trees.Part.{node, worked, branches}
+use Rattle.cpt_cert_accept.specs.Reading.{Outcome, After, behind}
+use Rattle.cpt_cert_accept.specs.Reading.Outcome.{went, faulted}
+use Rattle.cpt_cert_accept.specs.Descent.{Reads}
 use Rattle.cpt_walk.specs.declared.walk.Frame.{Frame}
 use Rattle.cpt_walk.specs.declared.walk.Place.{Place}
 use Rattle.cpt_walk.specs.declared.walk.Place.TheVariants.{Node, Worked, Behind}

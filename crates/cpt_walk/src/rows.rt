@@ -3,7 +3,7 @@
 ghost use Rattle.std.specs.Prelude.{◌≡◌, ◌+◌, ◌<◌, ◌≤◌, ◌==◌, length, replicate, All};
 ghost use Rattle.cpt_tables.specs.Spans.{IsBelow};
 ghost use Rattle.cpt_cert_form.specs.Forms.{IsRun};
-ghost use Rattle.cpt_verdict.specs.Reading.{values_of, is_form, is_row};
+ghost use Rattle.cpt_cert_accept.specs.Reading.{values_of, is_form, is_row};
 ghost use Rattle.cpt_walk.specs.Puts.{PutsPairs, PutsDists};
 
 use cpt_cert_read::{Run, Version, are_alone, are_runs};

@@ -8,8 +8,8 @@ ghost use Rattle.cpt_sheet.specs.Gaps.{FitsTask};
 ghost use Rattle.cpt_calculus.specs.Rules.{IsLegal, narrowed};
 ghost use Rattle.cpt_calculus.specs.Decisions.{Fits, applied};
 ghost use Rattle.cpt_calculus.specs.Flaws.{IsFlaw, children};
-ghost use Rattle.cpt_verdict.specs.Trees.Part.{node};
-ghost use Rattle.cpt_verdict.specs.Descent.{begins_left};
+ghost use Rattle.cpt_cert_accept.specs.Trees.Part.{node};
+ghost use Rattle.cpt_cert_accept.specs.Descent.{begins_left};
 ghost use Rattle.cpt_cert_form.specs.declared.forms.CertLine.TheVariants as cert;
 ghost use Rattle.cpt_walk.specs.Walks.{still, parts_left, at_work, at_node, at_end, IsFrame, IsFewIn, AreFew, IsWalk, IsUnread, GoesDown, Turns};
 
@@ -17,9 +17,9 @@ use cpt_calculus::{
     Decision, Flaw, NodeLine, Sheet, Step, apply, copy_sheet, flaw_children, is_dead, is_flaw,
     legal, narrow,
 };
+use cpt_cert_accept::Why;
 use cpt_tables::Tables;
 use cpt_task::{List, Memory, Task};
-use cpt_verdict::Why;
 use std::alloc::Global;
 
 /// A branch: its sheet, the children of its flaw, and how many of them have been met.

@@ -1,7 +1,7 @@
 use Rattle.std.proofs.Common.{◌+◌, [], refl, sym, arith, append-nil, inl}
-use Rattle.cpt_verdict.specs.declared.faults.Why.TheVariants as whys
-use Rattle.cpt_verdict.proofs.TextLines.{whole_text}
-use Rattle.cpt_verdict.proofs.Truth.{certificates_hold}
+use Rattle.cpt_cert_accept.specs.declared.faults.Why.TheVariants as whys
+use Rattle.cpt_cert_accept.proofs.TextLines.{whole_text}
+use Rattle.cpt_cert_accept.proofs.Truth.{certificates_hold}
 use Rattle.cpt_check.proofs.Concluding.{version_at_end, read_faultless}
 use Rattle.cpt_check.proofs.ending.conclude.Goals as goal
 

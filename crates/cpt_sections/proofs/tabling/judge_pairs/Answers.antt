@@ -1,6 +1,6 @@
 use Rattle.std.proofs.Common.{◌+◌, sym, subst, arith}
-use Rattle.cpt_verdict.specs.declared.faults.Why.TheVariants as whys
-use Rattle.cpt_verdict.specs.Reading.Outcome.{faulted}
+use Rattle.cpt_cert_accept.specs.declared.faults.Why.TheVariants as whys
+use Rattle.cpt_cert_accept.specs.Reading.Outcome.{faulted}
 use Rattle.cpt_sections.specs.declared.section.Section.TheVariants as sections
 use Rattle.cpt_sections.specs.Sections.{Left, BehindPairs}
 use Rattle.cpt_sections.proofs.RowMoves.{good_pairs, bad_pairs, proceed_by}

@@ -1,6 +1,6 @@
 use Rattle.std.proofs.Common.{sym, ap, ◌∙◌, arith, ◌≡◌, ◌-◌, length, subst, true, false}
 use Rattle.cpt_cert_form.specs.declared.forms.CertLine.TheVariants as lines
-use Rattle.cpt_verdict.specs.Reading.{is_row, values_of}
+use Rattle.cpt_cert_accept.specs.Reading.{is_row, values_of}
 use Rattle.cpt_sections.specs.declared.section.PairRows.{PairRows}
 use Rattle.cpt_sections.specs.declared.section.Section.TheVariants as sections
 use Rattle.cpt_sections.specs.Sections.{Left, first_pair_rows}

@@ -1,5 +1,5 @@
 use Rattle.std.proofs.Common.{◌≡◌, ◌==◌, drop, length}
-use Rattle.cpt_verdict.specs.Reading.{values_of}
+use Rattle.cpt_cert_accept.specs.Reading.{values_of}
 use Rattle.cpt_walk.proofs.rows.has_count.Given as goal
 
 abbrev pub invariant-loop-run : goal.invariant-loop-run

@@ -1,6 +1,6 @@
 use Rattle.std.proofs.Common.{arith, subst}
 use Rattle.std.proofs.lemmas.List.{take_all}
-use Rattle.cpt_verdict.specs.Reading.{values_of}
+use Rattle.cpt_cert_accept.specs.Reading.{values_of}
 use Rattle.cpt_walk.specs.Puts.{PutsPairs}
 use Rattle.cpt_walk.proofs.Putting.{no_run, nothing_pairs, run_within, place_more, row_more}
 use Rattle.cpt_walk.proofs.rows.put_pair_row.Goals as goal

@@ -1,5 +1,5 @@
 use Rattle.std.proofs.Common.{◌≡◌, ◌+◌, take, length}
-use Rattle.cpt_verdict.specs.Reading.{values_of}
+use Rattle.cpt_cert_accept.specs.Reading.{values_of}
 use Rattle.cpt_walk.specs.Puts.{PutsPairs}
 use Rattle.cpt_walk.proofs.rows.put_pair_row.Given as goal
 

@@ -1,5 +1,0 @@
-use Rattle.cpt_verdict.proofs.OneText as lemmas
-use Rattle.cpt_verdict.proofs.laws.one_fault.Goals as goal
-
-pub returns : goal.returns
-returns c = lemmas.one_fault

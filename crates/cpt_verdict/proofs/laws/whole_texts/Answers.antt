@@ -1,6 +1,0 @@
-use Rattle.std.proofs.Common.{[]}
-use Rattle.cpt_verdict.proofs.TextLines as lemmas
-use Rattle.cpt_verdict.proofs.laws.whole_texts.Goals as goal
-
-pub returns : goal.returns
-returns c = λ t text ls v claim m inside short of reads. lemmas.whole_text t text ls v claim [] m inside short of reads
