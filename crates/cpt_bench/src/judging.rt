@@ -22,11 +22,8 @@ use cpt_io::MemSink;
 use cpt_options::Budget;
 use cpt_search::Outcome;
 use cpt_tables::Tables;
-use cpt_task::{Limit, Task};
+use cpt_task::{CERTIFICATE_LIMIT, Limit, Task};
 use std::alloc::Global;
-
-/// The most bytes of a certificate.
-const CERTIFICATE_LIMIT: u64 = 68_719_476_736;
 
 /// The certificate of what the search found.
 fn found_cert<'a>(task: &Task, tables: &'a Tables, budget: Budget, found: &'a Outcome) -> Cert<'a>

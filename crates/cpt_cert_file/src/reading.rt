@@ -6,11 +6,8 @@ ghost use Rattle.cpt_cert_file.specs.Texts.{certificate_under, reading_ending};
 
 use cpt_answer::{Cause, Ending};
 use cpt_io::{Library, ReadError, read_all};
-use cpt_task::Limit;
+use cpt_task::{FILE_LIMIT, Limit};
 use std::alloc::Global;
-
-/// The most bytes of a certificate that is read whole.
-const TEXT_LIMIT: u64 = 16_777_216;
 
 fn from_reading(e: ReadError) -> Ending
     ensures value { result ≡ reading_ending e }
@@ -33,7 +30,7 @@ pub fn certificate_in<L: Library>(alloc: Global, lib: &mut L, name: &str) -> Res
     ensures steady { IsTrue (L.steady lib.old) → IsTrue (L.steady lib.new) }
     ensures end { OnOk result (IsSome (L.holds lib.old) → L.left lib.new ≡ Some []) }
 {
-    match read_all(alloc, lib, name, TEXT_LIMIT) {
+    match read_all(alloc, lib, name, FILE_LIMIT) {
         Ok(text) => Ok(text),
         Err(e) => Err(from_reading(e)),
     }

@@ -13,11 +13,8 @@ use cpt_cert_print::{Cert, Version, cert_len, print_cert};
 use cpt_io::{PrintError, Sink};
 use cpt_search::Outcome;
 use cpt_tables::Tables;
-use cpt_task::Task;
+use cpt_task::{CERTIFICATE_LIMIT, Task};
 use std::alloc::Global;
-
-/// The most bytes of a certificate.
-const CERTIFICATE_LIMIT: u64 = 68_719_476_736;
 
 /// Why a certificate was not put whole.
 #[derive(Clone, Copy, Debug, PartialEq, Eq)]

@@ -14,11 +14,8 @@ use cpt_answer::{Cause, Ending, Reply, tell};
 use cpt_check::{CheckError, Judged, check};
 use cpt_files::accepted_in;
 use cpt_io::{Library, Sink};
-use cpt_task::{Limit, Task};
+use cpt_task::{CERTIFICATE_LIMIT, Limit, Task};
 use std::alloc::Global;
-
-/// The most bytes that are taken of a certificate.
-const CERTIFICATE_LIMIT: u64 = 68_719_476_736;
 
 fn from_check(e: CheckError) -> Ending
     ensures { result ≡ check_ending e }

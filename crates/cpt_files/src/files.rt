@@ -8,12 +8,9 @@ ghost use Rattle.cpt_files.specs.Files.{read_ending, task_ending, plan_ending, t
 
 use cpt_answer::{Cause, Ending};
 use cpt_io::{Library, ReadError, read_all};
-use cpt_task::{Limit, Task};
+use cpt_task::{FILE_LIMIT, Limit, Task};
 use cpt_text::{PlanText, PlanTextError, Roster, TaskTextError, read_plan, read_task};
 use std::alloc::Global;
-
-/// The most bytes that a domain, problem, task or plan file may have.
-pub const FILE_LIMIT: u64 = 16_777_216;
 
 /// The text of the file under the name.
 pub fn text_in<L: Library>(alloc: Global, lib: &mut L, name: &str) -> Result<Vec<u8>, Ending>

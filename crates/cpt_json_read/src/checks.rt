@@ -8,13 +8,15 @@ use crate::forms::{ActionForm, TaskForm};
 use crate::names::are_named;
 use crate::numbers::are_atoms;
 use cpt_json_form::JsonTaskError;
-use cpt_task::{Limit, Memory};
+use cpt_task::{CONDITION_LIMIT, Limit, Memory};
 use std::alloc::Global;
 
 fn has_short_lists(a: &ActionForm) -> bool
     ensures { MatchBool result (HasShortLists a.now) (HasShortLists a.now → ⊥) }
 {
-    a.pre.as_slice().len() <= 64 && a.add.as_slice().len() <= 128 && a.dele.as_slice().len() <= 128
+    a.pre.as_slice().len() <= CONDITION_LIMIT
+        && a.add.as_slice().len() <= 2 * CONDITION_LIMIT
+        && a.dele.as_slice().len() <= 2 * CONDITION_LIMIT
 }
 
 fn have_short_lists(actions: &[ActionForm]) -> bool

@@ -11,12 +11,8 @@ ghost use Rattle.cpt_reach.specs.Pruning.{Prunes, KeptNumbers};
 use crate::kept::kept_task;
 use crate::marking::reached_marks;
 use crate::numbers::{mark_too, marked_numbers, ready_actions};
-use cpt_task::{Limit, List, Memory, Task};
+use cpt_task::{ACTION_LIMIT, ATOM_LIMIT, Limit, List, Memory, Task};
 use std::alloc::Global;
-
-const ATOM_LIMIT: usize = 2048;
-
-const ACTION_LIMIT: usize = 4096;
 
 /// The kept part of a task, and the old numbers of its atoms and of its actions, increasing.
 #[derive(Debug, Drop)]

@@ -12,6 +12,7 @@ use cpt_declared::Declared;
 use cpt_pddl::{
     Cursor, Fault, Feature, Head, Next, Typed, after_word, group_at, head_of, is_word, nothing,
 };
+use cpt_task::CONDITION_LIMIT;
 use std::alloc::Global;
 
 /// A test of two terms: they are to be equal, or to be different.
@@ -134,7 +135,7 @@ impl Conditions {
         ensures { result ≡ is_full (conds_of self.now) }
     {
         let pre = self.pre.len();
-        pre >= 64 || self.absent.len() >= 64 - pre
+        pre >= CONDITION_LIMIT || self.absent.len() >= CONDITION_LIMIT - pre
     }
 
     #[tactic(auto, unfolding(crate::specs::Conditions::present))]

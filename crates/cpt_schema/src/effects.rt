@@ -9,6 +9,7 @@ ghost use Rattle.cpt_schema.specs.Shapes.{effs_of};
 use crate::terms::{Lit, atom_in, same_lit};
 use cpt_declared::Declared;
 use cpt_pddl::{Cursor, Fault, Feature, Head, Next, Typed, group_at, head_of, is_word, nothing};
+use cpt_task::CONDITION_LIMIT;
 use std::alloc::Global;
 
 /// An atom that is added or deleted. It is marked where it is added at the start or deleted at the end.
@@ -131,7 +132,7 @@ impl Effects {
     ) -> Result<(), Fault>
         ensures { Gives (λ _. effs_of self.new) result (add_atom declared.now params.now tag (effs_of self.old) atom at bytes.now (left rest.entry)) }
     {
-        let full = self.adds.len() >= 64;
+        let full = self.adds.len() >= CONDITION_LIMIT;
         let lit = atom_in(alloc, declared, params, full, atom, at, bytes, rest)?;
         self.add(tag, lit)
     }
@@ -150,7 +151,7 @@ impl Effects {
     ) -> Result<(), Fault>
         ensures { Gives (λ _. effs_of self.new) result (delete_atom declared.now params.now tag (effs_of self.old) atom at bytes.now (left rest.entry)) }
     {
-        let full = self.dels.len() >= 64;
+        let full = self.dels.len() >= CONDITION_LIMIT;
         let lit = atom_in(alloc, declared, params, full, atom, at, bytes, rest)?;
         self.delete(tag, lit)
     }

@@ -8,7 +8,7 @@ use crate::error::TaskTextError;
 use crate::fields::{length_of_name, line_of, number_of, past};
 use crate::lists::short_ids_of;
 use cpt_line::is_spelled_name;
-use cpt_task::{Action, List};
+use cpt_task::{Action, CONDITION_LIMIT, List};
 use std::alloc::Global;
 use std::collections::BTreeSet;
 
@@ -53,9 +53,9 @@ fn action_of<'a>(
     ensures exact { Gives (λ x. (x.0, split x.1.now)) result (action_at number count (name.now, dur) (split text.now)) }
     ensures name { IfOk result (λ x. x.0.name ≡ name.now) }
 {
-    let (pre, rest) = short_ids_of(alloc, number + 1, b"pre", 64, count, text)?;
-    let (add, rest) = short_ids_of(alloc, number + 2, b"add", 128, count, rest)?;
-    let (dele, rest) = short_ids_of(alloc, number + 3, b"del", 128, count, rest)?;
+    let (pre, rest) = short_ids_of(alloc, number + 1, b"pre", CONDITION_LIMIT, count, text)?;
+    let (add, rest) = short_ids_of(alloc, number + 2, b"add", 2 * CONDITION_LIMIT, count, rest)?;
+    let (dele, rest) = short_ids_of(alloc, number + 3, b"del", 2 * CONDITION_LIMIT, count, rest)?;
     let name = List::from_vec(Vec::from_slice(alloc, name)?);
     Ok((
         Action {
