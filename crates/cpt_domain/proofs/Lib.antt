@@ -3,7 +3,6 @@ mod ConditionSoundness
 mod EffectSoundness
 mod ErrorLemmas
 mod KindSoundness
-mod PairLemmas
 mod SchemaSoundness
 mod SignatureSoundness
 mod TermSoundness

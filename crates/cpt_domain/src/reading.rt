@@ -1,7 +1,6 @@
 //! Reads a domain.
 
 ghost use Rattle.std.specs.Prelude.{◌≡◌, Ok, IfOk};
-ghost use Rattle.std.specs.List.{zip};
 ghost use Rattle.cpt_pddl.specs.Faults.{Gives};
 ghost use Rattle.cpt_pddl.specs.Items.{left, said_by};
 ghost use Rattle.cpt_domain.specs.Errors.{Answers, domain_error, of_domain};
@@ -17,7 +16,7 @@ use cpt_declared::{
 };
 use cpt_pddl::{
     Cursor, Fault, Feature, Names, Next, Sort, Typed, after_word, group_at, name_at, nothing,
-    typed_list,
+    paired, typed_list,
 };
 use cpt_schema::{Schema, schema_in};
 use cpt_sexp::Forest;
@@ -180,28 +179,6 @@ fn name_in(alloc: Global, place: Cursor<'_>) -> Result<Name, Fault>
     let (_, name, rest) = name_at(rest)?;
     nothing(rest)?;
     name_of(alloc, name)
-}
-
-/// The elements of two vectors in pairs, as far as both go.
-fn paired<A: Drop, B: Drop>(
-    alloc: Global,
-    firsts: Vec<A>,
-    seconds: Vec<B>,
-) -> Result<Vec<(A, B)>, Fault>
-    ensures { Gives (λ pairs. pairs.items) result (Ok (zip firsts.items seconds.items)) }
-{
-    let mut firsts = firsts;
-    let mut seconds = seconds;
-    firsts.reverse();
-    seconds.reverse();
-    let mut pairs = Vec::new(alloc);
-    while let Some(first) = firsts.pop() {
-        let Some(second) = seconds.pop() else {
-            return Ok(pairs);
-        };
-        pairs.push((first, second))?;
-    }
-    Ok(pairs)
 }
 
 fn type_decls(alloc: Global, names: Vec<Name>, parents: Vec<u32>) -> Result<List<TypeDecl>, Fault>

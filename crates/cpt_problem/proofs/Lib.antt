@@ -4,7 +4,6 @@ mod GoalLemmas
 mod InitLemmas
 mod KeyLemmas
 mod ObjectLemmas
-mod PairLemmas
 mod SizeLemmas
 mod Steps
 mod TypedLemmas

@@ -1,13 +1,12 @@
 //! What a domain declares, by numbers, for the reading of problems.
 
 ghost use Rattle.std.specs.Prelude.{◌≡◌, Ok};
-ghost use Rattle.std.specs.List.{zip};
 ghost use Rattle.cpt_pddl.specs.Faults.{Gives};
 ghost use Rattle.cpt_problem.specs.Tables.{declared_of, function_kinds, function_names, object_kinds, object_names, objects_after, predicate_kinds, predicate_names, type_names, type_parents};
 
 use cpt_declared::{Declared, Kinds, Signatures};
 use cpt_domain::{Domain, Function, ObjectDecl, Predicate, TypeDecl};
-use cpt_pddl::{Ancestry, Fault, Names, Typed};
+use cpt_pddl::{Ancestry, Fault, Names, Typed, paired};
 use cpt_task::List;
 use std::alloc::Global;
 
@@ -121,28 +120,6 @@ pub fn declared_of(alloc: Global, domain: &Domain) -> Result<Declared, Fault>
         predicates,
         functions,
     })
-}
-
-/// The elements of two vectors in pairs, as far as both go.
-fn paired<A: Drop, B: Drop>(
-    alloc: Global,
-    firsts: Vec<A>,
-    seconds: Vec<B>,
-) -> Result<Vec<(A, B)>, Fault>
-    ensures { Gives (λ pairs. pairs.items) result (Ok (zip firsts.items seconds.items)) }
-{
-    let mut firsts = firsts;
-    let mut seconds = seconds;
-    firsts.reverse();
-    seconds.reverse();
-    let mut pairs = Vec::new(alloc);
-    while let Some(first) = firsts.pop() {
-        let Some(second) = seconds.pop() else {
-            return Ok(pairs);
-        };
-        pairs.push((first, second))?;
-    }
-    Ok(pairs)
 }
 
 /// The objects behind so many others.

@@ -1,6 +1,6 @@
 use Rattle.std.proofs.Common.{◌≡◌, ◌++◌, reverse, length}
 use Rattle.std.specs.List.{zip}
-use Rattle.cpt_domain.proofs.reading.paired.Given as goal
+use Rattle.cpt_pddl.proofs.pairs.paired.Given as goal
 
 -- the pairs so far and those of what is left are all
 abbrev pub invariant-loop-first : goal.invariant-loop-first
