@@ -1,5 +1,6 @@
 pub mod BoardLemmas
 pub mod LimitLemmas
 pub mod RuleLemmas
+pub mod RowLemmas
 pub mod RoundLemmas
 pub mod TableLemmas

@@ -1,3 +1,4 @@
 pub mod Board
 pub mod Rules
+pub mod Rows
 pub mod Rounds

@@ -1,4 +1,5 @@
 use Rattle.std.specs.Prelude.{◌≡◌, ℕ, ◌+◌, ◌<◌, ◌⊎◌, false, cond, List, length}
+use Rattle.cpt_task.specs.declared.span.Span.{Span}
 use Rattle.cpt_task.specs.declared.task.Action.{Action}
 use Rattle.cpt_tables.specs.Spans.{◌≤ˢ◌}
 use Rattle.cpt_tables.specs.Shapes.{PairShape, pair_at}
@@ -10,15 +11,30 @@ use Rattle.cpt_h2.specs.Rules.{Rule, needs_of, limit_of, Concerns, IsMet, IsUpTo
 abbrev pub IsSettled : PairShape → BoardShape → Rule → Type 0
 IsSettled h b r = IsQuiet b.marks (needs_of r) → (p q : ℕ) → Concerns r p q → pair_at b.pairs p q ≤ˢ limit_of h r
 
--- each rule of which R holds has been looked at, unless what it is made of had no mark before
+-- the table meets each rule of which R holds
+abbrev pub MeetsEach : (Rule → Type 0) → PairShape → Type 0
+MeetsEach R g = (r : Rule) → R r → IsMet g r
+
+-- each rule of which R holds has been looked at by a limit at most that of table h, unless what it is made of had no
+-- mark before
+abbrev pub Settles : (Rule → Type 0) → MarksShape → PairShape → BoardShape → Type 0
+Settles R looked h b = (r : Rule) → R r → IsQuiet looked (needs_of r) ⊎ IsSettled h b r
+
+-- each rule of which R holds has been looked at by a limit at most that of the old table, unless what it is made of had
+-- no mark before
 pub record Works (R : Rule → Type 0) (looked : MarksShape) (old new : BoardShape) : Type 0 where
-  pub drops : Drops (λ g. (r : Rule) → R r → IsMet g r) old new
-  pub settled : (r : Rule) → R r → IsQuiet looked (needs_of r) ⊎ IsSettled old.pairs new r
+  pub drops : Drops (MeetsEach R) old new
+  pub settled : Settles R looked old.pairs new
 
 -- the rule has been looked at: no value is above the limit that it had
 pub record Looks (r : Rule) (old new : BoardShape) : Type 0 where
   pub drops : Drops (λ g. IsMet g r) old new
   pub met : (p q : ℕ) → Concerns r p q → pair_at new.pairs p q ≤ˢ limit_of old.pairs r
+
+-- the rule has been looked at: no value is above v, which is no less than its limit
+pub record LooksUpTo (r : Rule) (v : Span) (old new : BoardShape) : Type 0 where
+  pub drops : Drops (λ g. IsMet g r) old new
+  pub met : (p q : ℕ) → Concerns r p q → pair_at new.pairs p q ≤ˢ v
 
 -- the new values are at most the old ones, and still at least each table of which G holds
 pub record Sinks (G : PairShape → Type 0) (old new : BoardShape) : Type 0 where

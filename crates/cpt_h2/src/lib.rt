@@ -4,6 +4,7 @@
 mod board;
 mod limits;
 mod marks;
+mod rows;
 mod rules;
 mod table;
 

@@ -3,14 +3,15 @@
 ghost use Rattle.std.specs.Prelude.{◌≡◌, ◌<◌, ◌≤◌, ◌+◌, ◌*◌, ◌++◌, ◌∷◌, [], All};
 ghost use Rattle.cpt_task.specs.Shape.{HasAtomsBelow, IsDuration};
 ghost use Rattle.cpt_task.specs.declared.span.Span.{Span};
-ghost use Rattle.cpt_tables.specs.Spans.{◌+ˢ◌, IsBelow};
+ghost use Rattle.cpt_tables.specs.Spans.{◌+ˢ◌, span_max, IsBelow};
 ghost use Rattle.cpt_tables.specs.Shapes.{set_span_of};
-ghost use Rattle.cpt_tables.specs.Admissible.{limit_by_one, limit_beside, limit_by_two};
+ghost use Rattle.cpt_tables.specs.Admissible.{limit_by_one, limit_beside};
 ghost use Rattle.cpt_tables.specs.Weights.{IsNextTo, reached};
 ghost use Rattle.cpt_h2.specs.Board.{IsGood, IsWithin};
+ghost use Rattle.cpt_h2.specs.Rows.{limit_of_parts};
 
 use crate::board::Board;
-use cpt_tables::{add_spans, greater_span, set_span, span_across, span_with};
+use cpt_tables::{add_spans, greater_span, set_span, span_with};
 use cpt_task::{Action, Span};
 
 /// When all of the atoms can hold together at the earliest.
@@ -34,20 +35,6 @@ fn span_beside(board: &Board, atoms: &[u32], q: u32) -> Span
     let pairs = board.pairs();
     let more = greater_span(span_with(pairs, q, atoms), pairs.get(q, q));
     greater_span(set_span(pairs, atoms), more)
-}
-
-/// When all atoms of both lists can hold together at the earliest; `own` and `other` are the spans of each by itself.
-fn span_of_both(board: &Board, first: &[u32], own: Span, second: &[u32], other: Span) -> Span
-    requires good { IsGood board.now }
-    requires first { All (λ p. p < board.now.pairs.atoms) first.now }
-    requires own { own ≡ set_span_of board.now.pairs first.now }
-    requires second { All (λ p. p < board.now.pairs.atoms) second.now }
-    requires other { other ≡ set_span_of board.now.pairs second.now }
-    ensures value { result ≡ set_span_of board.now.pairs (first.now ++ second.now) }
-    ensures small { IsBelow (100000 * reached board.now.pairs.values + 1) result }
-{
-    let across = span_across(board.pairs(), first, second);
-    greater_span(own, greater_span(other, across))
 }
 
 /// The span and a duration after it.
@@ -84,23 +71,38 @@ pub fn limit_beside(board: &Board, action: &Action, q: u32) -> Span
     after(board, begin, action.dur)
 }
 
-/// When two actions that run side by side can both have ended at the earliest.
-pub fn limit_by_two(board: &Board, first: &Action, second: &Action) -> Span
+/// At least when the action can end beside an atom that stays, by what was read of the action; `near` is the row's
+/// value at the atom.
+pub fn least_beside(board: &Board, action: &Action, own: Span, near: Span) -> Span
+    requires good { IsGood board.now }
+    requires action { IsWithin board.now.pairs.atoms action.now }
+    requires own { IsBelow (100000 * reached board.now.pairs.values + 1) own }
+    requires near { IsBelow (100000 * reached board.now.pairs.values + 1) near }
+    ensures { result ≡ span_max own near +ˢ Span.At action.now.dur }
+{
+    after(board, greater_span(own, near), action.dur)
+}
+
+/// When two actions that run side by side can both have ended, by the spans of their preconditions and the greatest
+/// value across them.
+pub fn limit_of_parts(
+    board: &Board,
+    first: &Action,
+    second: &Action,
+    own: Span,
+    other: Span,
+    across: Span,
+) -> Span
     requires good { IsGood board.now }
     requires first { IsWithin board.now.pairs.atoms first.now }
     requires second { IsWithin board.now.pairs.atoms second.now }
-    ensures value { result ≡ limit_by_two board.now.pairs first.now second.now }
+    requires own { IsBelow (100000 * reached board.now.pairs.values + 1) own }
+    requires other { IsBelow (100000 * reached board.now.pairs.values + 1) other }
+    requires across { IsBelow (100000 * reached board.now.pairs.values + 1) across }
+    ensures value { result ≡ limit_of_parts first.now second.now own other across }
     ensures next { IsNextTo board.now.pairs.values result }
 {
-    let own = span_of(board, first.pre.as_slice());
-    let other = span_of(board, second.pre.as_slice());
-    let begin = span_of_both(
-        board,
-        first.pre.as_slice(),
-        own,
-        second.pre.as_slice(),
-        other,
-    );
+    let begin = greater_span(own, greater_span(other, across));
     let both = after(board, begin, first.dur.min(second.dur));
     let more = greater_span(after(board, other, second.dur), both);
     greater_span(after(board, own, first.dur), more)

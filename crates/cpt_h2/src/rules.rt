@@ -1,49 +1,24 @@
 //! Lowering by rules.
 
-ghost use Rattle.std.specs.Prelude.{◌≡◌, ◌<◌, ◌≤◌, ℕ, suc, true, length, All, MatchBool};
+ghost use Rattle.std.specs.Prelude.{◌≡◌, ◌<◌, ℕ, suc, length, All, MatchBool};
 ghost use Rattle.cpt_task.specs.Interference.{Interferes};
 ghost use Rattle.cpt_task.specs.declared.task.Action.{Action};
 ghost use Rattle.cpt_tables.specs.Spans.{◌≤ˢ◌, IsFinite};
-ghost use Rattle.cpt_tables.specs.Shapes.{pair_at};
-ghost use Rattle.cpt_tables.specs.Admissible.{Leaves};
-ghost use Rattle.cpt_h2.specs.Board.{IsGood, IsWithin, AllBelow};
+ghost use Rattle.cpt_tables.specs.Shapes.{PairShape, set_span_of};
+ghost use Rattle.cpt_tables.specs.Admissible.{Leaves, limit_by_two};
+ghost use Rattle.cpt_tables.specs.Weights.{value_at, IsNextTo};
+ghost use Rattle.cpt_h2.specs.Board.{IsGood, IsWithin, Drops};
 ghost use Rattle.cpt_h2.specs.Rules.{Rule, IsUpTo, IsRuleAt, action_of};
 ghost use Rattle.cpt_h2.specs.Rules.Rule.{one, beside, two};
-ghost use Rattle.cpt_h2.specs.Rounds.{Works, Looks};
+ghost use Rattle.cpt_h2.specs.Rounds.{MeetsEach, Settles, Works, Looks, LooksUpTo};
+ghost use Rattle.cpt_h2.specs.Rows.{IsRowOf, IsAtMost, IsRead, IsFrom, IsSpanOver, AreSpansOver, AreSpansUnder, IsRoom};
 
 use crate::board::Board;
-use crate::limits::{limit_beside, limit_by_one, limit_by_two, span_of};
+use crate::limits::{least_beside, limit_beside, limit_by_one, limit_of_parts, span_of};
 use crate::marks::Marks;
-use cpt_tables::{PairTable, exceeds};
+use crate::rows::{farthest, fill, is_below, value_of};
+use cpt_tables::exceeds;
 use cpt_task::{Action, Span, interfere};
-
-/// Whether no value of the atom with one of the others is above this one.
-fn is_row_below(pairs: &PairTable, p: u32, qs: &[u32], value: Span) -> bool
-    requires first { p < pairs.now.atoms }
-    requires second { All (λ q. q < pairs.now.atoms) qs.now }
-    ensures { result ≡ true → All (λ q. pair_at pairs.now p q ≤ˢ value) qs.now }
-{
-    for q in qs {
-        if exceeds(pairs.get(p, *q), value) {
-            return false;
-        }
-    }
-    true
-}
-
-/// Whether no value of an atom of the first list with one of the second is above this one.
-fn are_below(pairs: &PairTable, ps: &[u32], qs: &[u32], value: Span) -> bool
-    requires first { All (λ p. p < pairs.now.atoms) ps.now }
-    requires second { All (λ q. q < pairs.now.atoms) qs.now }
-    ensures { result ≡ true → AllBelow pairs.now ps.now qs.now value }
-{
-    for p in ps {
-        if !is_row_below(pairs, *p, qs, value) {
-            return false;
-        }
-    }
-    true
-}
 
 /// Whether the action neither adds nor deletes the atom.
 fn leaves(action: &Action, q: u32) -> bool
@@ -85,23 +60,19 @@ fn look_beside(board: &mut Board, action: &Action, q: u32)
     }
 }
 
-/// Lowers the pairs of what two actions add that do not interfere.
-fn look_at_two(board: &mut Board, first: &Action, second: &Action)
+/// Lowers the pairs of what two actions add that do not interfere, to a limit that is no less than theirs.
+fn look_at_two(board: &mut Board, first: &Action, second: &Action, limit: Span)
     requires good { IsGood board.old }
     requires first { IsWithin board.old.pairs.atoms first.now }
     requires second { IsWithin board.old.pairs.atoms second.now }
-    ensures { Looks (two first.now second.now) board.old board.new }
+    requires next { IsNextTo board.old.pairs.values limit }
+    requires enough { limit_by_two board.old.pairs first.now second.now ≤ˢ limit }
+    ensures { LooksUpTo (two first.now second.now) limit board.old board.new }
 {
-    let ps = first.add.as_slice();
-    let qs = second.add.as_slice();
-    let limit = limit_by_two(board, first, second);
-    if are_below(board.pairs(), ps, qs, limit) {
-        return;
-    }
     if interfere(first, second) {
         return;
     }
-    board.lower_all(ps, qs, limit);
+    board.lower_all(first.add.as_slice(), second.add.as_slice(), limit);
 }
 
 /// Looks at the action by itself, unless none of its atoms has a mark.
@@ -116,7 +87,7 @@ fn apply_by_itself(board: &mut Board, looked: &Marks, action: &Action)
 }
 
 /// Looks at the action beside the atom, unless none of their atoms has a mark.
-fn apply_beside(board: &mut Board, looked: &Marks, action: &Action, q: u32)
+fn apply_marked(board: &mut Board, looked: &Marks, action: &Action, q: u32)
     requires good { IsGood board.old }
     requires action { IsWithin board.old.pairs.atoms action.now }
     requires atom { q < board.old.pairs.atoms }
@@ -127,26 +98,81 @@ fn apply_beside(board: &mut Board, looked: &Marks, action: &Action, q: u32)
     }
 }
 
-/// Looks at the two actions, unless none of their atoms has a mark.
-fn apply_two(board: &mut Board, looked: &Marks, first: &Action, second: &Action)
+/// Looks at the action beside the atom, unless what was read of the action shows that its pairs are met.
+fn apply_beside(
+    board: &mut Board,
+    looked: &Marks,
+    action: &Action,
+    own: Span,
+    reach: &[Span],
+    tops: &[Span],
+    q: u32,
+)
     requires good { IsGood board.old }
-    requires first { IsWithin board.old.pairs.atoms first.now }
-    requires second { IsWithin board.old.pairs.atoms second.now }
-    ensures { Works (λ r. r ≡ two first.now second.now) looked.now board.old board.new }
+    requires action { IsWithin board.old.pairs.atoms action.now }
+    requires read { IsRead board.old action.now own reach.now tops.now }
+    requires atom { q < board.old.pairs.atoms }
+    ensures drops { Drops (MeetsEach (λ r. r ≡ beside action.now q)) board.old board.new }
+    ensures settled { (h : PairShape) → IsFrom h board.old.pairs action.now own reach.now → Settles (λ r. r ≡ beside action.now q) looked.now h board.new }
 {
-    if !looked.are_quiet(first.pre.as_slice(), second.pre.as_slice()) {
-        look_at_two(board, first, second);
+    let near = value_of(reach, q as usize);
+    let least = least_beside(board, action, own, near);
+    let top = value_of(tops, q as usize);
+    if exceeds(top, least) {
+        apply_marked(board, looked, action, q);
     }
 }
 
+/// Looks at the two actions, unless their pairs are met or none of their atoms has a mark; `other` is the span of the
+/// second one's preconditions.
+fn apply_two(
+    board: &mut Board,
+    looked: &Marks,
+    first: &Action,
+    own: Span,
+    reach: &[Span],
+    tops: &[Span],
+    second: &Action,
+    other: Span,
+)
+    requires good { IsGood board.old }
+    requires first { IsWithin board.old.pairs.atoms first.now }
+    requires second { IsWithin board.old.pairs.atoms second.now }
+    requires read { IsRead board.old first.now own reach.now tops.now }
+    requires other { IsSpanOver board.old second.now.pre other }
+    ensures drops { Drops (MeetsEach (λ r. r ≡ two first.now second.now)) board.old board.new }
+    ensures settled { (h : PairShape) → IsFrom h board.old.pairs first.now own reach.now → other ≤ˢ set_span_of h second.now.pre → Settles (λ r. r ≡ two first.now second.now) looked.now h board.new }
+{
+    let ps = first.pre.as_slice();
+    let qs = second.pre.as_slice();
+    if looked.are_quiet(ps, qs) {
+        return;
+    }
+    let across = farthest(reach, qs);
+    let limit = limit_of_parts(board, first, second, own, other, across);
+    if is_below(tops, second.add.as_slice(), limit) {
+        return;
+    }
+    look_at_two(board, first, second, limit);
+}
+
 /// Looks at the action beside each atom.
-fn apply_atoms(board: &mut Board, looked: &Marks, action: &Action)
+fn apply_atoms(
+    board: &mut Board,
+    looked: &Marks,
+    action: &Action,
+    own: Span,
+    reach: &[Span],
+    tops: &[Span],
+)
     requires good { IsGood board.old }
     requires action { IsWithin board.old.pairs.atoms action.now }
-    ensures { Works (IsUpTo (λ q r. r ≡ beside action.now q) board.old.pairs.atoms) looked.now board.old board.new }
+    requires read { IsRead board.old action.now own reach.now tops.now }
+    ensures drops { Drops (MeetsEach (IsUpTo (λ q r. r ≡ beside action.now q) board.old.pairs.atoms)) board.old board.new }
+    ensures settled { (h : PairShape) → IsFrom h board.old.pairs action.now own reach.now → Settles (IsUpTo (λ q r. r ≡ beside action.now q) board.old.pairs.atoms) looked.now h board.new }
 {
     for q in 0..board.pairs().atoms() {
-        apply_beside(board, looked, action, q);
+        apply_beside(board, looked, action, own, reach, tops, q);
     }
 }
 
@@ -159,39 +185,117 @@ fn action_at(actions: &[Action], k: usize) -> &Action
 }
 
 /// Looks at the action of number `k` with each action up to itself.
-fn apply_actions(board: &mut Board, looked: &Marks, actions: &[Action], k: usize)
+fn apply_actions(
+    board: &mut Board,
+    looked: &Marks,
+    actions: &[Action],
+    k: usize,
+    spans: &[Span],
+    reach: &[Span],
+    tops: &[Span],
+)
     requires good { IsGood board.old }
     requires actions { All (IsWithin board.old.pairs.atoms) actions.now }
     requires within { k < length actions.now }
-    ensures { Works (IsUpTo (λ j r. r ≡ two (action_of actions.now k) (action_of actions.now j)) (suc k)) looked.now board.old board.new }
+    requires spans_size { length spans.now ≡ length actions.now }
+    requires spans { AreSpansOver board.old actions.now spans.now (suc k) }
+    requires read { IsRead board.old (action_of actions.now k) (value_at spans.now k) reach.now tops.now }
+    ensures drops { Drops (MeetsEach (IsUpTo (λ j r. r ≡ two (action_of actions.now k) (action_of actions.now j)) (suc k))) board.old board.new }
+    ensures settled { (h : PairShape) → IsFrom h board.old.pairs (action_of actions.now k) (value_at spans.now k) reach.now → AreSpansUnder h actions.now spans.now (suc k) → Settles (IsUpTo (λ j r. r ≡ two (action_of actions.now k) (action_of actions.now j)) (suc k)) looked.now h board.new }
 {
+    let first = action_at(actions, k);
+    let own = value_of(spans, k);
     for j in 0..k + 1 {
-        apply_two(board, looked, action_at(actions, k), action_at(actions, j));
+        let second = action_at(actions, j);
+        let other = value_of(spans, j);
+        apply_two(board, looked, first, own, reach, tops, second, other);
     }
 }
 
-/// Looks at the rules of the action of number `k`, where it can run at all.
-fn apply_action(board: &mut Board, looked: &Marks, actions: &[Action], k: usize)
+/// Reads the row of the action's preconditions, and that of what it adds.
+fn read_action(board: &Board, action: &Action, reach: &mut [Span], tops: &mut [Span])
+    requires action { IsWithin board.now.pairs.atoms action.now }
+    requires reach { length reach.old ≡ board.now.pairs.atoms }
+    requires tops { length tops.old ≡ board.now.pairs.atoms }
+    ensures near { IsRowOf board.now.pairs action.now.pre reach.new }
+    ensures top { IsRowOf board.now.pairs action.now.add tops.new }
+{
+    fill(reach, board.pairs(), action.pre.as_slice());
+    fill(tops, board.pairs(), action.add.as_slice());
+}
+
+/// Looks at the rules of the action of number `k`, which can run.
+fn apply_running(
+    board: &mut Board,
+    looked: &Marks,
+    actions: &[Action],
+    k: usize,
+    spans: &[Span],
+    reach: &mut [Span],
+    tops: &mut [Span],
+)
     requires good { IsGood board.old }
     requires actions { All (IsWithin board.old.pairs.atoms) actions.now }
     requires within { k < length actions.now }
-    ensures { Works (IsRuleAt actions.now board.old.pairs.atoms k) looked.now board.old board.new }
+    requires room { IsRoom (length actions.now) board.old.pairs.atoms spans.now reach.old tops.old }
+    requires spans { AreSpansOver board.old actions.now spans.now (suc k) }
+    ensures drops { Drops (MeetsEach (IsRuleAt actions.now board.old.pairs.atoms k)) board.old board.new }
+    ensures settled { (h : PairShape) → IsAtMost board.old.pairs h → AreSpansUnder h actions.now spans.now (suc k) → Settles (IsRuleAt actions.now board.old.pairs.atoms k) looked.now h board.new }
+    ensures room { IsRoom (length actions.now) board.new.pairs.atoms spans.now reach.new tops.new }
 {
     let action = action_at(actions, k);
-    if is_finite(span_of(board, action.pre.as_slice())) {
-        apply_by_itself(board, looked, action);
-        apply_atoms(board, looked, action);
-        apply_actions(board, looked, actions, k);
+    let own = value_of(spans, k);
+    apply_by_itself(board, looked, action);
+    read_action(board, action, reach, tops);
+    apply_atoms(board, looked, action, own, reach, tops);
+    apply_actions(board, looked, actions, k, spans, reach, tops);
+}
+
+/// Looks at the rules of the action of number `k`, where it can run at all, and writes the span of its preconditions.
+fn apply_action(
+    board: &mut Board,
+    looked: &Marks,
+    actions: &[Action],
+    k: usize,
+    spans: &mut [Span],
+    reach: &mut [Span],
+    tops: &mut [Span],
+)
+    requires good { IsGood board.old }
+    requires actions { All (IsWithin board.old.pairs.atoms) actions.now }
+    requires within { k < length actions.now }
+    requires room { IsRoom (length actions.now) board.old.pairs.atoms spans.old reach.old tops.old }
+    requires spans { AreSpansOver board.old actions.now spans.old k }
+    ensures drops { Drops (MeetsEach (IsRuleAt actions.now board.old.pairs.atoms k)) board.old board.new }
+    ensures settled { (h : PairShape) → IsAtMost board.old.pairs h → AreSpansUnder h actions.now spans.old k → Settles (IsRuleAt actions.now board.old.pairs.atoms k) looked.now h board.new }
+    ensures spans { AreSpansOver board.new actions.now spans.new (suc k) }
+    ensures under { (h : PairShape) → IsAtMost board.old.pairs h → AreSpansUnder h actions.now spans.old k → AreSpansUnder h actions.now spans.new (suc k) }
+    ensures room { IsRoom (length actions.now) board.new.pairs.atoms spans.new reach.new tops.new }
+{
+    let action = action_at(actions, k);
+    let own = span_of(board, action.pre.as_slice());
+    spans[k] = own;
+    if is_finite(own) {
+        apply_running(board, looked, actions, k, spans, reach, tops);
     }
 }
 
 /// Looks at the rules of each action once.
-pub fn apply_all(board: &mut Board, looked: &Marks, actions: &[Action])
+pub fn apply_all(
+    board: &mut Board,
+    looked: &Marks,
+    actions: &[Action],
+    spans: &mut [Span],
+    reach: &mut [Span],
+    tops: &mut [Span],
+)
     requires good { IsGood board.old }
     requires actions { All (IsWithin board.old.pairs.atoms) actions.now }
-    ensures { Works (IsUpTo (IsRuleAt actions.now board.old.pairs.atoms) (length actions.now)) looked.now board.old board.new }
+    requires room { IsRoom (length actions.now) board.old.pairs.atoms spans.old reach.old tops.old }
+    ensures works { Works (IsUpTo (IsRuleAt actions.now board.old.pairs.atoms) (length actions.now)) looked.now board.old board.new }
+    ensures room { IsRoom (length actions.now) board.new.pairs.atoms spans.new reach.new tops.new }
 {
     for k in 0..actions.len() {
-        apply_action(board, looked, actions, k);
+        apply_action(board, looked, actions, k, spans, reach, tops);
     }
 }

@@ -8,6 +8,7 @@ pub loop-going-init : goal.loop-going-init
 loop-going-init c = record {
   sinks = sinks_same (MeetsAll c.args.actions.now c.args.board.now.pairs.atoms) c.args.board.now c.requires.good;
   looked = c.requires.size;
+  room = c.requires.room;
   settled = settled_at_first c.args.actions.now c.args.board.now c.requires.marks;
   last = λ e. absurd (cc);
 }
@@ -17,6 +18,7 @@ loop-going-preserved c = record {
   sinks = sinks_again (MeetsAll c.args.actions.now c.args.board.now.pairs.atoms) c.args.board.now c.loop-going.board c.round.new.board c.loop-going.invariant.sinks
       (sinks_along c.args.actions.now c.loop-going.board.pairs.atoms c.args.board.now.pairs.atoms c.loop-going.board c.round.new.board c.loop-going.invariant.sinks.size c.round.ensures.round.sinks);
   looked = c.round.ensures.size;
+  room = c.round.ensures.room;
   settled = c.round.ensures.round.settled;
   last = λ e. subst (λ n. MeetsAll c.args.actions.now n c.round.new.board.pairs) c.loop-going.invariant.sinks.size (c.round.ensures.round.last (sym c.has_moved-going.ensures ∙ e));
 }

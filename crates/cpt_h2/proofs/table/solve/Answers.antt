@@ -3,6 +3,7 @@ use Rattle.cpt_task.specs.declared.span.Span.TheVariants.{At}
 use Rattle.cpt_tables.specs.Shapes.{PairShape}
 use Rattle.cpt_h2.specs.Board.{IsWithin, AllBelow, Drops}
 use Rattle.cpt_h2.specs.Rounds.{Relaxes}
+use Rattle.cpt_h2.specs.Rows.{IsRoom}
 use Rattle.cpt_h2.proofs.TableLemmas.{good_empty, zero_next, within_task, greatest_by_rules, fits_by_good}
 use Rattle.cpt_h2.proofs.table.solve.Goals as goal
 
@@ -24,6 +25,12 @@ pub relax-requires-clause-actions : goal.relax-requires-clause-actions
 relax-requires-clause-actions c =
     let size : c.lower_all.new.self.pairs.atoms ≡ length c.args.task.now.atoms = c.lower_all.ensures.drops.size ∙ ap (λ (h : PairShape). h.atoms) c.requires.pairs in
     subst (λ n. All (IsWithin n) c.actions-actions.result.now) (sym size) (subst (All (IsWithin (length c.args.task.now.atoms))) (sym c.actions-actions.ensures.value) (within_task c.args.task.now c.actions-actions.ensures.bounds))
+
+pub relax-requires-clause-room : goal.relax-requires-clause-room
+relax-requires-clause-room c =
+    let size : c.lower_all.new.self.pairs.atoms ≡ length c.args.task.now.atoms = c.lower_all.ensures.drops.size ∙ ap (λ (h : PairShape). h.atoms) c.requires.pairs in
+    subst (λ n. IsRoom (length c.actions-actions.result.now) n c.args.spans.now c.args.reach.now c.args.tops.now) (sym size)
+    (subst (λ xs. IsRoom (length xs) (length c.args.task.now.atoms) c.args.spans.now c.args.reach.now c.args.tops.now) (sym c.actions-actions.ensures.value) c.requires.room)
 
 pub returns-clause-greatest : goal.returns-clause-greatest
 returns-clause-greatest c =
