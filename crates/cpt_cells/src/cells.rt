@@ -38,7 +38,7 @@ impl Model for Cells {
 
 impl Cells {
     ghost use Rattle.cpt_task.specs.Shape.{TaskShape};
-    ghost use Rattle.cpt_layout.specs.Places.{Place, IsThere, NoTwice, adders_at, all_cands, atom_at, extended, kept, needs_at, needs_by, order};
+    ghost use Rattle.cpt_layout.specs.Places.{Place, IsThere, NoTwice, adders_at, all_cands, atom_at, extended, kept, member, needs_at, needs_by, order};
     ghost use Rattle.cpt_layout.specs.Numbers.{cell_of, cells_in};
     ghost use Rattle.cpt_block.specs.Blocks.{IsFrameOf, block, grown, list_in};
     ghost use Rattle.cpt_cells.specs.Marks.{IsHeldBy, seen_by};
@@ -200,10 +200,34 @@ impl Cells {
         requires place { place < length (adders_at self.now.frame (atom_at self.now.frame x j)) }
         ensures { result ≡ has (Cand.Out (slice_index (adders_at self.now.frame (atom_at self.now.frame x j)) place)) (list_in self.now.sheet x j) }
     {
+        let first = self.outs_cell(x, j);
+        self.lists_behind(x, j, first, place)
+    }
+
+    /// Where it stands whether the first of the outside actions that add the atom is in the list of a token at a place among
+    /// its preconditions, and 0 where no action adds it.
+    pub(crate) fn outs_cell(&self, x: u32, j: usize) -> usize
+        requires token { x < length self.now.sheet.tokens }
+        requires need { j < length (needs_at self.now.frame x) }
+        ensures { 0 < length (adders_at self.now.frame (atom_at self.now.frame x j)) → result ≡ cell_of self.now.frame (member x j (Cand.Out (slice_index (adders_at self.now.frame (atom_at self.now.frame x j)) 0))) }
+    {
         let adders = self.layout.adders(self.layout.needs(x)[j]);
-        let first = adders[0];
-        let cell = self.layout.out_cand_cell(x, j, first) + place;
-        self.trail.get(cell) == 1
+        if adders.is_empty() {
+            0
+        } else {
+            self.layout.out_cand_cell(x, j, adders[0])
+        }
+    }
+
+    /// The same as `lists_adder`, where the cell of the first of them is known.
+    pub(crate) fn lists_behind(&self, x: u32, j: usize, first: usize, place: usize) -> bool
+        requires token { x < length self.now.sheet.tokens }
+        requires need { j < length (needs_at self.now.frame x) }
+        requires place { place < length (adders_at self.now.frame (atom_at self.now.frame x j)) }
+        requires first { first ≡ cell_of self.now.frame (member x j (Cand.Out (slice_index (adders_at self.now.frame (atom_at self.now.frame x j)) 0))) }
+        ensures { result ≡ has (Cand.Out (slice_index (adders_at self.now.frame (atom_at self.now.frame x j)) place)) (list_in self.now.sheet x j) }
+    {
+        self.trail.get(first + place) == 1
     }
 
     /// What a token stands for.

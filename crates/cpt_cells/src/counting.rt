@@ -49,8 +49,9 @@ impl Cells {
     {
         let mut count = 0;
         let atom = self.needs(x)[j];
+        let first = self.outs_cell(x, j);
         for place in 0..self.adders(atom).len() {
-            let listed = self.lists_adder(x, j, place);
+            let listed = self.lists_behind(x, j, first, place);
             count += one_if(listed);
         }
         count
@@ -65,8 +66,9 @@ impl Cells {
         ensures none { result ≡ false → length (outs_in (list_in self.now.sheet x j) (adders_at self.now.frame (atom_at self.now.frame x j))) ≡ 0 }
     {
         let atom = self.needs(x)[j];
+        let first = self.outs_cell(x, j);
         for place in 0..self.adders(atom).len() {
-            if self.lists_adder(x, j, place) {
+            if self.lists_behind(x, j, first, place) {
                 return true;
             }
         }
@@ -147,9 +149,10 @@ impl Cells {
     {
         let mut passed = 0;
         let atom = self.needs(x)[j];
+        let first = self.outs_cell(x, j);
         for i in 0..self.adders(atom).len() {
             let a = self.adders(atom)[i];
-            let listed = self.lists_adder(x, j, i);
+            let listed = self.lists_behind(x, j, first, i);
             if is_nth(listed, passed, place) {
                 return a;
             }

@@ -12,4 +12,4 @@ loop-place-preserved c =
     let e : c.adders-place-end.result.now ≡ bs = adders_in f c.args.x c.args.j c.needs.result.now c.adders-place-end.result.now c.needs.ensures.value c.adders-place-end.ensures in
     let m : length c.adders-place-end.result.now ≡ length bs = ap (λ (zs : List ℕ). length zs) e in
     let l : c.loop-place.place < length bs = omega arith in
-    outs_none (list_in c.args.self.now.sheet c.args.x c.args.j) bs c.loop-place.place l c.loop-place.invariant (sym c.lists_adder.ensures ∙ c.if-lists_adder.false)
+    outs_none (list_in c.args.self.now.sheet c.args.x c.args.j) bs c.loop-place.place l c.loop-place.invariant (sym c.lists_behind.ensures ∙ c.if-lists_behind.false)

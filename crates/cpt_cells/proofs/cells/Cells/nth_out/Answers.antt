@@ -13,8 +13,8 @@ bounds-adders-i c =
     let e : length c.adders.result.now ≡ length c.adders-i-end.result.now = ap (λ (zs : List ℕ). length zs) (c.adders.ensures ∙ sym c.adders-i-end.ensures) in
     omega arith
 
-pub lists_adder-listed-requires-clause-place : goal.lists_adder-listed-requires-clause-place
-lists_adder-listed-requires-clause-place c =
+pub lists_behind-listed-requires-clause-place : goal.lists_behind-listed-requires-clause-place
+lists_behind-listed-requires-clause-place c =
     let f : Frame = c.args.self.now.frame in
     let bs : List ℕ = adders_at f (atom_at f c.args.x c.args.j) in
     let e : c.adders-i-end.result.now ≡ bs = adders_in f c.args.x c.args.j c.needs.result.now c.adders-i-end.result.now c.needs.ensures.value c.adders-i-end.ensures in
@@ -30,9 +30,9 @@ loop-i-preserved c =
     let cs : List Cand = list_in c.args.self.now.sheet c.args.x c.args.j in
     let i = c.loop-i.invariant in
     let l : c.loop-i.i < length bs = omega arith in
-    let p : c.loop-i.passed + bit c.lists_adder-listed.result ≤ c.args.place = passes_on c.lists_adder-listed.result c.loop-i.passed c.args.place (sym c.is_nth.ensures ∙ c.if-is_nth.false) i.most in
+    let p : c.loop-i.passed + bit c.lists_behind-listed.result ≤ c.args.place = passes_on c.lists_behind-listed.result c.loop-i.passed c.args.place (sym c.is_nth.ensures ∙ c.if-is_nth.false) i.most in
     record {
-      passed = outs_more cs bs c.loop-i.i c.loop-i.passed c.one_if-passed.result l i.passed (c.one_if-passed.ensures.value ∙ ap bit c.lists_adder-listed.ensures);
+      passed = outs_more cs bs c.loop-i.i c.loop-i.passed c.one_if-passed.result l i.passed (c.one_if-passed.ensures.value ∙ ap bit c.lists_behind-listed.ensures);
       most = omega (arith, p, c.one_if-passed.ensures.value);
     }
 
@@ -44,7 +44,7 @@ returns-then-is_nth c =
     let m : length c.adders-i-end.result.now ≡ length bs = ap (λ (zs : List ℕ). length zs) e in
     let cs : List Cand = list_in c.args.self.now.sheet c.args.x c.args.j in
     let g : get_or bs c.loop-i.i 0 ≡ get_or c.adders.result.now c.loop-i.i 0 = ap (λ (zs : List ℕ). get_or zs c.loop-i.i 0) (sym e ∙ (c.adders-i-end.ensures ∙ sym c.adders.ensures)) in
-    let r = is_there c.is_nth.result c.lists_adder-listed.result c.loop-i.passed c.args.place c.is_nth.ensures c.if-is_nth.true in
+    let r = is_there c.is_nth.result c.lists_behind-listed.result c.loop-i.passed c.args.place c.is_nth.ensures c.if-is_nth.true in
     let l : c.loop-i.i < length bs = omega arith in
-    nth_out cs bs c.loop-i.i c.args.place l (sym c.lists_adder-listed.ensures ∙ r.0) (r.1 ∙ c.loop-i.invariant.passed)
+    nth_out cs bs c.loop-i.i c.args.place l (sym c.lists_behind-listed.ensures ∙ r.0) (r.1 ∙ c.loop-i.invariant.passed)
     ∙ ap (λ (a : ℕ). (let o : Option Cand = Some (Out a) in o)) g
