@@ -24,7 +24,7 @@ impl Cells {
     }
 
     /// Whether a token has no moment, or a list without a candidate.
-    fn is_dead_token(&self, x: u32) -> bool
+    pub fn is_dead_token(&self, x: u32) -> bool
         requires { x < length self.now.sheet.tokens }
         ensures { MatchBool result (IsDeadToken (token_at self.now.sheet x)) (IsLiveToken (token_at self.now.sheet x)) }
     {

@@ -8,6 +8,7 @@ use Rattle.std.proofs.Math.Seq.{take-append_seam}
 use Rattle.cpt_sheet.specs.declared.data.Decision.{Decision}
 use Rattle.cpt_calculus.specs.Decisions.{Fits, applied}
 use Rattle.cpt_calculus.proofs.ApplyFormed.{applied_formed}
+use Rattle.cpt_store.proofs.DeathLemmas.{live_after}
 use Rattle.cpt_store.proofs.HeldLemmas.{tokens_applied}
 use Rattle.cpt_task.specs.Shape.{TaskShape}
 use Rattle.cpt_tables.specs.declared.tables.Tables.{Tables}
@@ -37,6 +38,7 @@ use Rattle.cpt_calculus.proofs.Reading.{cand_there, tok_is}
 use Rattle.cpt_sheet.specs.declared.data.Change.TheVariants.{Take, Post}
 use Rattle.cpt_sheet.specs.declared.data.Decision.TheVariants.{Join, Bring, Before}
 use Rattle.cpt_steps.proofs.RoomLemmas.{steps_lessen}
+use Rattle.cpt_store.specs.Deaths.{IsLiveAt}
 use Rattle.cpt_store.specs.Proposals.{IsProposed}
 use Rattle.cpt_store.specs.Stores.{Mark, KeepsMarks}
 use Rattle.cpt_store.specs.Stores.KeepsMarks.{same as as_before, newest}
@@ -177,6 +179,12 @@ can_ask t b h g step a e fit f legal i live n m = record {
   tokens = (let k = same_count t b h.sheet step legal in let j = ap (λ (z : Sheet). length z.tokens) i in omega arith);
   acts = m;
 }
+
+-- a step kills a live sheet only where it lands
+pub live_step : (rules : List ℕ) (t : TaskShape) (b : Tables) (s u : Sheet) (step : Step) (c : Cand) → u ≡ narrowed s step → IsLive s → IsProposed rules t b s c step → IsLiveAt u c → IsLive u
+live_step rules t b s u step c e live p h =
+    subst (λ (z : Sheet). IsLive z) (sym e)
+    (live_after s (change_of s step) live (subst (λ (k : Cand). IsLiveAt (narrowed s step) k) (sym p.lands) (subst (λ (z : Sheet). IsLiveAt z c) e h)))
 
 pub on_step : (rules : List ℕ) (t : TaskShape) (b : Tables) (s u : Sheet) (step : Step) (c : Cand) (old new : AgendaShape) → u ≡ narrowed s step → IsRunning rules t b s old (c ∷ old.waiting) → IsLive s →
     IsProposed rules t b s c step → IsLive u → IsWoken rules t b u step old new → IsOn rules t b c s u old new

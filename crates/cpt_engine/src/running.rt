@@ -48,7 +48,7 @@ fn advance<R: Rule, L: Ledger>(
 {
     steps.push(step)?;
     store.narrow(&step, ticks);
-    if store.dead() {
+    if store.dead_at(subject) {
         return Ok(State::Dead);
     }
     wake(ctx, store, rule, users, &step, agenda);

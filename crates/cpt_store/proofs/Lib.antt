@@ -1,4 +1,5 @@
 pub mod CopyLemmas
+pub mod DeathLemmas
 pub mod HeldLemmas
 pub mod KeptLemmas
 pub mod RelatedLemmas

@@ -1,3 +1,4 @@
+pub mod Deaths
 pub mod Held
 pub mod Proposals
 pub mod Related

@@ -8,6 +8,7 @@ ghost use Rattle.cpt_sheet.specs.View.{before, cands, has, kind_of, span_of};
 ghost use Rattle.cpt_calculus.specs.Rules.{IsToken, narrowed};
 ghost use Rattle.cpt_calculus.specs.Decisions.{applied, Fits};
 ghost use Rattle.cpt_calculus.specs.Root.{root_of};
+ghost use Rattle.cpt_store.specs.Deaths.{IsDeadAt, IsLiveAt};
 ghost use Rattle.cpt_store.specs.Held.{IsSeatFor, IsSeated, kind_in, kinds_with};
 ghost use Rattle.cpt_index.specs.Index.{IsIndexOf, kinds_in};
 ghost use Rattle.cpt_index.specs.Lists.{IsConsumer, IsDeleter, IsOffer, IsRival, Lists};
@@ -261,6 +262,17 @@ impl Store {
         ensures { MatchBool result (IsDead self.now.sheet) (IsLive self.now.sheet) }
     {
         self.cells.dead()
+    }
+
+    /// Whether a step of a live sheet that lands at this subject has made it dead: then the subject is a token without a
+    /// moment, or with a list without a candidate. An outside action never makes a sheet dead.
+    pub fn dead_at(&self, at: Cand) -> bool
+        ensures { MatchBool result (IsDeadAt self.now.sheet at) (IsLiveAt self.now.sheet at) }
+    {
+        match at {
+            Cand::Tok(x) => self.is_token(x) && self.cells.is_dead_token(x),
+            Cand::Out(_) => false,
+        }
     }
 
     /// The tokens and outside actions that add the atom.

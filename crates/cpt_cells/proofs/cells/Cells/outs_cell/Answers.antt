@@ -1,13 +1,8 @@
-use Rattle.std.proofs.Common.{rules, arith, ◌≡◌, ◌<◌, ◌+◌, ◌^◌, ◌==◌, ◌∙◌, ℕ, List, length, get_or, ap, sym, subst}
+use Rattle.std.proofs.Common.{rules, arith, ◌≡◌, ◌<◌, ℕ, List, length, get_or, ap, sym, subst}
 use Rattle.cpt_sheet.specs.declared.data.Cand.TheVariants.{Out}
-use Rattle.cpt_sheet.specs.View.{has}
-use Rattle.cpt_layout.specs.Numbers.{cell_of}
-use Rattle.cpt_layout.specs.Places.{Frame, IsThere, Place, adders_at, atom_at, member, needs_at, place_in}
-use Rattle.cpt_layout.specs.Sheets.{number_at}
-use Rattle.cpt_layout.proofs.Numbering.{cell_below}
-use Rattle.cpt_block.specs.Blocks.{list_in}
+use Rattle.cpt_layout.specs.Places.{Frame, IsThere, adders_at, atom_at, member, needs_at, place_in}
 use Rattle.cpt_cells.specs.Shapes.{CellsShape}
-use Rattle.cpt_cells.proofs.Listed.{adders_in, out_is_there, out_listed, place_nth, token_in}
+use Rattle.cpt_cells.proofs.Listed.{adders_in, out_is_there, place_nth, token_in}
 use Rattle.cpt_cells.proofs.cells.Cells.outs_cell.Goals as goal
 
 pub out_cand_cell-requires-clause-there : goal.out_cand_cell-requires-clause-there
