@@ -9,9 +9,10 @@ use Rattle.std.proofs.lemmas.List.Elements.{All-nil, All-cons, All-head, All-tai
 use Rattle.cpt_task.specs.Shape.{TaskShape}
 use Rattle.cpt_cert_read.specs.Texts.{ended}
 use Rattle.cpt_cert_read.proofs.Splits.{ended_append}
-use Rattle.cpt_trim.specs.declared.fates.Fate.{Fate}
-use Rattle.cpt_trim.specs.declared.fates.Fate.TheVariants.{Fixed, Kept, Dropped}
-use Rattle.cpt_trim.specs.Fates.{is_dropped, left_of, text_of, numbers_of, kept_in, AreTold, Befits, Drops, IsNeeded}
+use Rattle.cpt_thin.specs.declared.fates.Fate.{Fate}
+use Rattle.cpt_thin.specs.declared.fates.Fate.TheVariants.{Fixed, Kept, Dropped}
+use Rattle.cpt_thin.specs.Fates.{is_dropped}
+use Rattle.cpt_trim.specs.Fates.{left_of, text_of, numbers_of, kept_in, AreTold, Befits, Drops, IsNeeded}
 use Rattle.cpt_trim.specs.Without.{SaysStep, without_from}
 
 pub left_push : (fs : List Fate) (bs : List (List ℕ)) (f : Fate) (b : List ℕ) → length fs ≡ length bs → left_of (fs ++ f ∷ []) (bs ++ b ∷ []) ≡ left_of fs bs ++ (if is_dropped f then [] else b ∷ [])

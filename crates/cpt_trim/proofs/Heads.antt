@@ -17,9 +17,10 @@ use Rattle.cpt_cert_read.proofs.Meaning.{one_meaning}
 use Rattle.cpt_cert_read.proofs.Splits.{split_once}
 use Rattle.cpt_cert_accept.specs.Accepting.{IsInForm, Accepts}
 use Rattle.cpt_cert_accept.proofs.Feedless.{feedless}
-use Rattle.cpt_trim.specs.declared.fates.Fate.{Fate}
-use Rattle.cpt_trim.specs.declared.fates.Fate.TheVariants.{Fixed, Kept, Dropped}
-use Rattle.cpt_trim.specs.Fates.{Befits, is_dropped, left_of, text_of}
+use Rattle.cpt_thin.specs.declared.fates.Fate.{Fate}
+use Rattle.cpt_thin.specs.declared.fates.Fate.TheVariants.{Fixed, Kept, Dropped}
+use Rattle.cpt_thin.specs.Fates.{is_dropped}
+use Rattle.cpt_trim.specs.Fates.{Befits, left_of, text_of}
 use Rattle.cpt_trim.specs.Without.{SaysStep}
 use Rattle.cpt_trim.proofs.SplitLines.{split_is, left_split}
 

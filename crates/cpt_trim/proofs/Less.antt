@@ -15,9 +15,11 @@ use Rattle.cpt_cert_accept.proofs.OneText.{no_fault}
 use Rattle.cpt_check.specs.declared.judged.Judged.{Judged}
 use Rattle.cpt_check.specs.declared.judged.Ruling.TheVariants.{Accepted, Rejected}
 use Rattle.cpt_check.specs.Judging.{IsRejected, RulesOf}
-use Rattle.cpt_trim.specs.declared.fates.Fate.{Fate}
-use Rattle.cpt_trim.specs.declared.fates.Fate.TheVariants.{Dropped}
-use Rattle.cpt_trim.specs.Fates.{AreFound, AreTold, Befits, IsNeeded, is_dropped, left_of, numbers_of, text_of}
+use Rattle.cpt_thin.specs.declared.fates.Fate.{Fate}
+use Rattle.cpt_thin.specs.declared.fates.Fate.TheVariants.{Dropped}
+use Rattle.cpt_cert_read.specs.Lines.{HasNoEnd}
+use Rattle.cpt_thin.specs.Fates.{is_dropped}
+use Rattle.cpt_trim.specs.Fates.{AreFound, AreTold, Befits, IsNeeded, left_of, numbers_of, text_of}
 use Rattle.cpt_trim.specs.Trimming.{IsLess, IsTrimmed}
 use Rattle.cpt_trim.specs.Without.{IsAccepted, IsIrreducible, IsStepLine, without, without_from}
 use Rattle.cpt_trim.proofs.FateLists.{IsOneLess, IsStepAt, all_left, befit_length, left_without, numbers_increase, numbers_step, one_less}
@@ -120,6 +122,12 @@ module _ (t : TaskShape) (text : List ℕ) (bodies other : List (Bor (List ℕ))
   told_at one fs f befit left accepted =
       subst (λ (z : List (Bor (List ℕ))). AreTold t fs (map (λ (b : Bor (List ℕ)). b.now) z) tail) (sym same)
       (told_first t text (map (λ (b : Bor (List ℕ)). b.now) bodies) tail fs e (subst (λ (z : List (Bor (List ℕ))). AllZip Befits fs (map (λ (b : Bor (List ℕ)). b.now) z)) f befit) left accepted)
+
+  pub ends_at : All HasNoEnd (map (λ (b : Bor (List ℕ)). b.now) other) × HasNoEnd tail
+  ends_at =
+      let is = split_is text in
+      subst (λ (z : List (Bor (List ℕ))). All HasNoEnd (map (λ (b : Bor (List ℕ)). b.now) z) × HasNoEnd tail) (sym same)
+      (subst (λ (z : List (List ℕ) × List ℕ). All HasNoEnd z.0 × HasNoEnd z.1) (sym e) (is.lines, is.last))
 
   pub size_at : length text ≤ 16777216 → length (ended (map (λ (b : Bor (List ℕ)). b.now) other)) + length tail ≤ 16777216
   size_at size =

@@ -7,8 +7,8 @@ use Rattle.cpt_line.specs.Lines.{glue, split}
 use Rattle.cpt_cert_read.specs.Lines.{HasNoEnd}
 use Rattle.cpt_cert_read.specs.Texts.{ended, IsSplit}
 use Rattle.cpt_cert_read.proofs.Splits.{split_once}
-use Rattle.cpt_trim.specs.declared.fates.Fate.{Fate}
-use Rattle.cpt_trim.specs.declared.fates.Fate.TheVariants.{Fixed, Kept, Dropped}
+use Rattle.cpt_thin.specs.declared.fates.Fate.{Fate}
+use Rattle.cpt_thin.specs.declared.fates.Fate.TheVariants.{Fixed, Kept, Dropped}
 use Rattle.cpt_trim.specs.Fates.{left_of, text_of}
 
 glued : (b : ℕ) (bs : List ℕ) (bodies : List (List ℕ)) (tail : List ℕ) → b ≢ 10 → IsSplit bs bodies tail → IsSplit (b ∷ bs) (glue (b ∷ []) (bodies, tail)).0 (glue (b ∷ []) (bodies, tail)).1
@@ -41,7 +41,7 @@ split_ended bodies tail lines last =
     let is = split_is (ended bodies ++ tail) in
     split_once (split (ended bodies ++ tail)).0 bodies (split (ended bodies ++ tail)).1 tail is.lines lines is.last last (sym is.whole)
 
-left_feedless : (fs : List Fate) (bs : List (List ℕ)) → All HasNoEnd bs → All HasNoEnd (left_of fs bs)
+pub left_feedless : (fs : List Fate) (bs : List (List ℕ)) → All HasNoEnd bs → All HasNoEnd (left_of fs bs)
 left_feedless [] bs h = All-nil HasNoEnd
 left_feedless (f ∷ fs) [] h = All-nil HasNoEnd
 left_feedless (Fixed ∷ fs) (b ∷ bs) h = All-cons HasNoEnd b (left_of fs bs) (All-head HasNoEnd b bs h) (left_feedless fs bs (All-tail HasNoEnd b bs h))

@@ -1,23 +1,21 @@
-use Rattle.std.specs.Prelude.{ℕ, ◌+◌, ◌≡◌, Bool, true, false, if◌then◌else◌, List, [], ◌∷◌, ◌++◌, Some, slice_get, slice_set}
+use Rattle.std.specs.Prelude.{ℕ, ◌+◌, ◌≡◌, Bool, true, false, if◌then◌else◌, List, [], ◌∷◌, ◌++◌, Some, All, slice_get, slice_set}
 use Rattle.std.specs.List.{AllZip}
 use Rattle.cpt_task.specs.Shape.{TaskShape}
 use Rattle.cpt_sheet.specs.declared.data.NodeLine.TheVariants.{Narrow}
 use Rattle.cpt_cert_form.specs.declared.forms.CertLine.{CertLine}
 use Rattle.cpt_cert_form.specs.declared.forms.CertLine.TheVariants as lines
+use Rattle.cpt_cert_form.specs.Forms.{IsReadAs}
+use Rattle.cpt_cert_read.specs.Lines.{HasNoEnd}
 use Rattle.cpt_cert_read.specs.Texts.{ended}
-use Rattle.cpt_trim.specs.declared.fates.Fate.{Fate}
-use Rattle.cpt_trim.specs.declared.fates.Fate.TheVariants.{Fixed, Kept, Dropped}
+use Rattle.cpt_thin.specs.declared.fates.Fate.{Fate}
+use Rattle.cpt_thin.specs.declared.fates.Fate.TheVariants.{Fixed, Kept, Dropped}
+use Rattle.cpt_thin.specs.Fates.{is_dropped}
 use Rattle.cpt_trim.specs.Without.{SaysStep, IsAccepted}
 
 -- the line is a step line
 abbrev pub is_step : CertLine → Bool
 is_step (lines.Node (Narrow step)) = true
 is_step _ = false
-
-abbrev pub is_dropped : Fate → Bool
-is_dropped Fixed = false
-is_dropped Kept = false
-is_dropped Dropped = true
 
 -- the lines that are not dropped
 abbrev pub left_of : List Fate → List (List ℕ) → List (List ℕ)
@@ -69,3 +67,9 @@ pub record AreFound (t : TaskShape) (bodies : List (List ℕ)) (tail numbers lef
   pub needed : (place : ℕ) → IsNeeded t fates bodies tail place
   pub numbers_are : numbers ≡ numbers_of 1 fates
   pub left_is : left ≡ text_of fates bodies tail
+
+-- the lines of a text, what stands behind the last line feed, and what the lines are read as
+pub record AreLines (bodies : List (List ℕ)) (tail : List ℕ) (ls : List CertLine) : Type 0 where
+  pub feedless : All HasNoEnd bodies
+  pub last : HasNoEnd tail
+  pub each : AllZip IsReadAs bodies ls

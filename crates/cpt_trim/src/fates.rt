@@ -4,24 +4,15 @@ ghost use Rattle.std.specs.Prelude.{◌≡◌, ◌++◌, List, [], ◌∷◌, fa
 ghost use Rattle.std.specs.List.{AllZip};
 ghost use Rattle.cpt_line.specs.Lines.{split};
 ghost use Rattle.cpt_trim.specs.Without.{SaysStep};
-ghost use Rattle.cpt_trim.specs.Fates.{Befits, is_dropped, is_step, numbers_of, text_of};
+ghost use Rattle.cpt_thin.specs.Fates.{is_dropped};
+ghost use Rattle.cpt_trim.specs.Fates.{Befits, is_step, numbers_of, text_of};
 
 use cpt_cert_read::{CertLine, read_line};
 use cpt_line::first_line;
 use cpt_sheet::NodeLine;
 use cpt_task::{List, Memory};
+use cpt_thin::{Fate, is_dropped};
 use std::alloc::Global;
-
-/// What becomes of a line.
-#[derive(Clone, Copy)]
-pub enum Fate {
-    /// It is no step line.
-    Fixed,
-    /// It is a step line that is not dropped.
-    Kept,
-    /// It is a step line that is dropped.
-    Dropped,
-}
 
 /// The lines that end in the text, and what stands behind the last line feed.
 pub fn lines_of(alloc: Global, text: &[u8]) -> Result<(Vec<&[u8]>, &[u8]), Memory>
@@ -72,13 +63,6 @@ pub fn first_fates(alloc: Global, bodies: &[&[u8]]) -> Result<Vec<Fate>, Memory>
         fates.push(fate)?;
     }
     Ok(fates)
-}
-
-/// Whether the line is dropped.
-fn is_dropped(fate: Fate) -> bool
-    ensures { result ≡ is_dropped fate }
-{
-    matches!(fate, Fate::Dropped)
 }
 
 /// Puts the line behind the text, where it is not dropped.

@@ -1,18 +1,20 @@
 //! Trimming.
 
-ghost use Rattle.std.specs.Prelude.{◌≡◌, ◌+◌, ◌≤◌, length, map, IfOk};
+ghost use Rattle.std.specs.Prelude.{◌≡◌, ◌+◌, ◌≤◌, length, map, All, IfOk};
+ghost use Rattle.cpt_cert_read.specs.Lines.{HasNoEnd};
 ghost use Rattle.cpt_cert_read.specs.Texts.{ended};
 ghost use Rattle.cpt_trim.specs.Fates.{AreFound, AreTold};
 ghost use Rattle.cpt_trim.specs.Without.{IsAccepted, without};
 ghost use Rattle.cpt_trim.specs.Trimming.{IsLess, Trims, TrimsWith};
 
-use crate::fates::{Fate, first_fates, lines_of, numbers_of, text_of};
+use crate::fates::{first_fates, lines_of, numbers_of, text_of};
 use crate::trimmed::{TrimError, Trimmed};
 use crate::trying::drop_needless;
 use cpt_cert_form::Version;
 use cpt_check::Ruling;
 use cpt_check_text::check_text;
 use cpt_task::{List, Memory, Task};
+use cpt_thin::Fate;
 use std::alloc::Global;
 
 /// Drops step lines until each that is left is needed, and answers the numbers of those that are dropped and the text
@@ -26,6 +28,7 @@ fn needless_among(
     tail: &[u8],
 ) -> Result<(List<u64>, Vec<u8>), Memory>
     requires told { AreTold task.now fates.old (map (λ b. b.now) bodies.now) tail.now }
+    requires ends { All HasNoEnd (map (λ b. b.now) bodies.now) × HasNoEnd tail.now }
     requires size { length (ended (map (λ b. b.now) bodies.now)) + length tail.now ≤ 16777216 }
     requires atoms { length task.now.atoms ≤ 2048 }
     requires actions { length task.now.actions ≤ 4096 }

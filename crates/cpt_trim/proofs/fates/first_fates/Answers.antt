@@ -1,7 +1,8 @@
 use Rattle.std.proofs.Common.{◌≡◌, ◌+◌, ℕ, List, Bor, All, false, map, take, sym, subst, arith}
 use Rattle.std.specs.List.{AllZip}
 use Rattle.std.proofs.lemmas.List.Elements.{All-push}
-use Rattle.cpt_trim.specs.Fates.{Befits, is_dropped}
+use Rattle.cpt_thin.specs.Fates.{is_dropped}
+use Rattle.cpt_trim.specs.Fates.{Befits}
 use Rattle.cpt_trim.proofs.FateLists.{befit_more}
 use Rattle.cpt_trim.proofs.fates.first_fates.Goals as goal
 

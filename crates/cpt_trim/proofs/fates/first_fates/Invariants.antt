@@ -1,6 +1,7 @@
 use Rattle.std.proofs.Common.{◌≡◌, ℕ, List, Bor, All, false, map, take}
 use Rattle.std.specs.List.{AllZip}
-use Rattle.cpt_trim.specs.Fates.{Befits, is_dropped}
+use Rattle.cpt_thin.specs.Fates.{is_dropped}
+use Rattle.cpt_trim.specs.Fates.{Befits}
 use Rattle.cpt_trim.proofs.fates.first_fates.Given as goal
 
 abbrev pub invariant-loop-body : goal.invariant-loop-body

@@ -1,7 +1,7 @@
 use Rattle.std.proofs.Common.{ℕ, List, Bor, map, sym, subst}
-use Rattle.cpt_trim.specs.declared.fates.Fate.{Fate}
+use Rattle.cpt_thin.specs.declared.fates.Fate.{Fate}
 use Rattle.cpt_trim.specs.Fates.{AreTold}
-use Rattle.cpt_trim.proofs.Less.{left_found, less_found, size_at, told_at}
+use Rattle.cpt_trim.proofs.Less.{ends_at, left_found, less_found, size_at, told_at}
 use Rattle.cpt_trim.proofs.trimming.needless.Goals as goal
 
 pub needless_among-requires-clause-told : goal.needless_among-requires-clause-told
@@ -18,3 +18,6 @@ returns-clause-less c = less_found c.args.task.now c.args.text.now c.in_ok-bodie
 
 pub returns-clause-left : goal.returns-clause-left
 returns-clause-left c = left_found c.args.task.now c.args.text.now c.in_ok-bodies.bodies.items c.deref-2.result.now c.in_ok-bodies.tail.now c.deref-2.ensures.value c.in_ok-bodies.ensures c.needless_among.result c.needless_among.ensures
+
+pub needless_among-requires-clause-ends : goal.needless_among-requires-clause-ends
+needless_among-requires-clause-ends c = ends_at c.args.task.now c.args.text.now c.in_ok-bodies.bodies.items c.deref-2.result.now c.in_ok-bodies.tail.now c.deref-2.ensures.value c.in_ok-bodies.ensures

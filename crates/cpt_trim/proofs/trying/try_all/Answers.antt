@@ -1,55 +1,34 @@
-use Rattle.std.proofs.Common.{◌≡◌, ◌-◌, ℕ, List, Bor, map, length, sym, ap, subst, arith}
-use Rattle.cpt_trim.specs.declared.fates.Fate.{Fate}
-use Rattle.cpt_trim.specs.Fates.{AreTold, Drops, IsNeeded, kept_in}
-use Rattle.cpt_trim.proofs.FateLists.{befit_count, fewer_dropped, length_dropped, needed_from, no_of, told_dropped, yes_of}
+use Rattle.std.proofs.Common.{ℕ, List, Bor, map, arith}
+use Rattle.cpt_trim.proofs.FateLists.{befit_count}
+use Rattle.cpt_trim.proofs.Needs.{all_needed, by_bool, lines_many, none_tried, tried_more}
 use Rattle.cpt_trim.proofs.trying.try_all.Goals as goal
 
-pub try_line-requires-clause-each : goal.try_line-requires-clause-each
-try_line-requires-clause-each c = befit_count c.loop-place.fates c.args.bodies.now c.loop-place.invariant.told.befit
+pub take_place-requires-clause-each : goal.take_place-requires-clause-each
+take_place-requires-clause-each c = befit_count c.loop-place.fates c.args.bodies.now c.loop-place.invariant.tried.told.befit
 
-pub loop-place-preserved-then-branch : goal.loop-place-preserved-then-branch
-loop-place-preserved-then-branch c =
-    let t = c.args.task.now in
-    let bodies = map (λ (b : Bor (List ℕ)). b.now) c.args.bodies.now in
-    let tail = c.args.tail.now in
-    let old = c.loop-place.fates in
-    let new = c.try_line.new.fates in
-    let place = c.loop-place.place - 1 in
-    let inv = c.loop-place.invariant in
+pub take_place-requires-clause-place : goal.take_place-requires-clause-place
+take_place-requires-clause-place c =
     let test = c.loop-place-test.true in
-    let drops : Drops t old bodies tail place new = yes_of c.in_ok-try_line.field-0 _ _ c.in_ok-try_line.ensures c.if-branch.true in
-    let size = length_dropped t old new bodies tail place drops in
-    let fewer = fewer_dropped t old new bodies tail place drops in
-    let within = inv.within in
-    let most = inv.most in
-    record {
-      told = told_dropped t old new bodies tail place inv.told drops;
-      within = omega (arith, within, size);
-      most = omega (arith, most, fewer);
-      fewer = λ e. omega (arith, most, fewer);
-      needed = λ e. absurd (cc);
-    }
+    let each = befit_count c.loop-place.fates c.args.bodies.now c.loop-place.invariant.tried.told.befit in
+    let many = lines_many c.args.bodies.now c.args.tail.now c.args.lines.now c.requires.lines in
+    omega (arith, test, each, many)
+
+pub loop-place-init : goal.loop-place-init
+loop-place-init c = record {
+  tried = none_tried c.args.task.now c.args.fates.now (map (λ (b : Bor (List ℕ)). b.now) c.args.bodies.now) c.args.tail.now c.requires.told;
+  front = c.begin_front.ensures c.args.task.now;
+}
 
 pub loop-place-preserved : goal.loop-place-preserved
-loop-place-preserved c =
-    let t = c.args.task.now in
-    let bodies = map (λ (b : Bor (List ℕ)). b.now) c.args.bodies.now in
-    let tail = c.args.tail.now in
-    let old = c.loop-place.fates in
-    let new = c.try_line.new.fates in
-    let place = c.loop-place.place - 1 in
-    let inv = c.loop-place.invariant in
-    let test = c.loop-place-test.true in
-    let kept : (new ≡ old) × IsNeeded t old bodies tail place = no_of c.in_ok-try_line.field-0 _ _ c.in_ok-try_line.ensures c.if-branch.false in
-    let same = kept.0 in
-    let size = ap length same in
-    let count = ap kept_in same in
-    let within = inv.within in
-    let most = inv.most in
-    record {
-      told = subst (λ (z : List Fate). AreTold t z bodies tail) (sym same) inv.told;
-      within = omega (arith, within, size);
-      most = omega (arith, most, count);
-      fewer = λ e. let less = inv.fewer e in omega (arith, less, count);
-      needed = λ e k le. subst (λ (z : List Fate). IsNeeded t z bodies tail k) (sym same) (needed_from t old bodies tail place k kept.1 (λ j lt. inv.needed e j (omega (arith, lt, test))) le);
-    }
+loop-place-preserved c = record {
+  tried = tried_more c.args.task.now c.args.fates.now c.loop-place.fates c.take_place.new.fates (map (λ (b : Bor (List ℕ)). b.now) c.args.bodies.now) c.args.tail.now c.loop-place.place c.loop-place.dropped c.in_ok-one.one c.either-dropped.result c.either-dropped.ensures c.loop-place.invariant.tried c.in_ok-one.ensures.tried;
+  front = c.in_ok-one.ensures.front;
+}
+
+pub returns-clause-fewer : goal.returns-clause-fewer
+returns-clause-fewer c =
+    let tried = c.loop-place.invariant.tried in
+    let test = c.loop-place-test.false in
+    let each = befit_count c.loop-place.fates c.args.bodies.now tried.told.befit in
+    let many = lines_many c.args.bodies.now c.args.tail.now c.args.lines.now c.requires.lines in
+    by_bool c.loop-place.dropped _ _ tried.fewer (λ e. all_needed c.args.task.now c.loop-place.fates (map (λ (b : Bor (List ℕ)). b.now) c.args.bodies.now) c.args.tail.now c.loop-place.place (omega (arith, test, each, many)) (tried.needed e))

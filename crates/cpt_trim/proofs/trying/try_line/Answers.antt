@@ -1,4 +1,4 @@
-use Rattle.cpt_trim.specs.declared.fates.Fate.TheVariants.{Dropped}
+use Rattle.cpt_thin.specs.declared.fates.Fate.TheVariants.{Dropped}
 use Rattle.cpt_trim.proofs.FateLists.{no_of, set_back}
 use Rattle.cpt_trim.proofs.trying.try_line.Goals as goal
 

@@ -1,0 +1,3 @@
+pub mod Doomed
+pub mod FrontLines
+pub mod Thins

@@ -1,0 +1,4 @@
+pub mod Dooms
+pub mod Fates
+pub mod Fronts
+pub mod Thinner
