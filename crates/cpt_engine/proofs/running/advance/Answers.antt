@@ -22,4 +22,4 @@ pub returns-clause-led : goal.returns-clause-led
 returns-clause-led g c = led_step _ _ _ _ _ c.args.subject c.args.step _ _ c.requires.running.formed c.requires.proposal c.narrow.ensures.sheet c.in_ok-push.ensures.items
 
 pub returns-then-dead_at-clause-advanced : goal.returns-then-dead_at-clause-advanced
-returns-then-dead_at-clause-advanced g c = dead_by _ c.args.subject c.if-dead_at.ensures
+returns-then-dead_at-clause-advanced g c = dead_by c.narrow.new.self.sheet c.args.subject c.if-dead_at.ensures
