@@ -3,8 +3,8 @@
 ghost use Rattle.std.specs.Prelude.{◌≤◌, length};
 
 use crate::scene::{
-    CHAIN, CHAIN_TASK, FAULTY, LONG_CHAIN, MIXED, MIXED_TASK, SHARED, SHARED_TASK, TRUCKS,
-    TRUCKS_TASK, task_of,
+    CHAIN, CHAIN_TASK, CROWDED, FAULTY, LONG_CHAIN, MIXED, MIXED_TASK, SHARED, SHARED_TASK, TRUCKS,
+    TRUCKS_TASK, task_of, text_of, without,
 };
 use cpt_cert_form::{Claim, Version};
 use cpt_check::{Ruling, Why};
@@ -34,31 +34,16 @@ fn is_accepted(alloc: Global, task: &Task, text: &[u8]) -> Result<bool, Fail> {
     }
 }
 
-/// The text without the lines of these numbers.
-fn without(alloc: Global, text: &str, numbers: &[u64]) -> Option<String> {
-    let mut left = String::new(alloc);
-    let mut number: u64 = 0;
-    for line in text.lines() {
-        number = number.saturating_add(1);
-        if !numbers.contains(&number) {
-            left.push_str(line).ok()?;
-            left.push('\n').ok()?;
-        }
-    }
-    Some(left)
-}
-
 /// The numbers of the lines that are dropped of a certificate with this claim.
-fn expect_dropped(
+fn expect_dropped_of(
     rt: &impl Abort,
     alloc: Global,
-    task: &str,
+    task: &Task,
     text: &str,
     claim: Claim,
     dropped: &[u64],
 ) -> Result<(), Fail> {
-    let task = task_of(alloc, task).ok_or("task")?;
-    match trimmed(alloc, &task, text.as_bytes()) {
+    match trimmed(alloc, task, text.as_bytes()) {
         Some(Ok(less)) => {
             assert_eq!(rt; less.version, Version::One);
             assert_eq!(rt; less.claim, claim);
@@ -69,31 +54,46 @@ fn expect_dropped(
     Ok(())
 }
 
+/// As `expect_dropped_of`, and of the lines that are left none is dropped.
+fn expect_dropped(
+    rt: &impl Abort,
+    alloc: Global,
+    task: &[&str],
+    lines: &[&str],
+    claim: Claim,
+    dropped: &[u64],
+) -> Result<(), Fail> {
+    let task = task_of(alloc, task).ok_or("task")?;
+    let text = text_of(alloc, lines).ok_or("text")?;
+    expect_dropped_of(rt, alloc, &task, &text, claim, dropped)?;
+    let less = without(alloc, &text, dropped).ok_or("less")?;
+    expect_dropped_of(rt, alloc, &task, &less, claim, &[])
+}
+
 #[test]
 fn needless_steps_are_dropped(rt: HostRuntime) -> Result<(), Fail> {
     let alloc = rt.alloc();
     let claim = Claim::Optimal(3);
-    expect_dropped(&rt, alloc, CHAIN_TASK, CHAIN, claim, &[14])?;
-    expect_dropped(&rt, alloc, CHAIN_TASK, LONG_CHAIN, claim, &[14, 15])?;
-    let less = without(alloc, CHAIN, &[14]).ok_or("less")?;
-    expect_dropped(&rt, alloc, CHAIN_TASK, &less, claim, &[])
+    expect_dropped(&rt, alloc, &CHAIN_TASK, &CHAIN, claim, &[14])?;
+    expect_dropped(&rt, alloc, &CHAIN_TASK, &LONG_CHAIN, claim, &[14, 15])
+}
+
+/// What trimming refuses lines with.
+fn refused(alloc: Global, task: &[&str], lines: &[&str]) -> Option<TrimError> {
+    let task = task_of(alloc, task)?;
+    let text = text_of(alloc, lines)?;
+    trimmed(alloc, &task, text.as_bytes())?.err()
 }
 
 #[test]
 fn a_text_that_is_no_certificate_is_refused(rt: HostRuntime) -> Result<(), Fail> {
-    let alloc = rt.alloc();
-    let task = task_of(alloc, CHAIN_TASK).ok_or("task")?;
-    match trimmed(alloc, &task, FAULTY.as_bytes()) {
-        Some(Err(e)) => {
-            let wanted = TrimError::Rejected {
-                version: Some(Version::One),
-                line: 15,
-                why: Why::Step,
-            };
-            assert_eq!(rt; e, wanted);
-        }
-        _ => return Err("trim".into()),
-    }
+    let error = refused(rt.alloc(), &CHAIN_TASK, &FAULTY).ok_or("error")?;
+    let wanted = TrimError::Rejected {
+        version: Some(Version::One),
+        line: 15,
+        why: Why::Step,
+    };
+    assert_eq!(rt; error, wanted);
     Ok(())
 }
 
@@ -138,9 +138,15 @@ fn expect_least(rt: &impl Abort, alloc: Global, task: &Task, left: &str) -> Resu
 }
 
 /// Some lines of a certificate can go, and then no further line.
-fn expect_trimmed(rt: &impl Abort, alloc: Global, task: &str, text: &str) -> Result<(), Fail> {
+fn expect_trimmed(
+    rt: &impl Abort,
+    alloc: Global,
+    task: &[&str],
+    lines: &[&str],
+) -> Result<(), Fail> {
     let task = task_of(alloc, task).ok_or("task")?;
-    let left = trimmed_text(rt, alloc, &task, text)?;
+    let text = text_of(alloc, lines).ok_or("text")?;
+    let left = trimmed_text(rt, alloc, &task, &text)?;
     let accepted = is_accepted(alloc, &task, left.as_bytes())?;
     assert!(rt; accepted);
     expect_least(rt, alloc, &task, &left)
@@ -148,28 +154,34 @@ fn expect_trimmed(rt: &impl Abort, alloc: Global, task: &str, text: &str) -> Res
 
 #[test]
 fn no_further_line_of_many_rules_can_go(rt: HostRuntime) -> Result<(), Fail> {
-    expect_trimmed(&rt, rt.alloc(), MIXED_TASK, MIXED)
+    expect_trimmed(&rt, rt.alloc(), &MIXED_TASK, &MIXED)
 }
 
 #[test]
 fn no_further_line_on_a_shared_resource_can_go(rt: HostRuntime) -> Result<(), Fail> {
-    expect_trimmed(&rt, rt.alloc(), SHARED_TASK, SHARED)
+    expect_trimmed(&rt, rt.alloc(), &SHARED_TASK, &SHARED)
+}
+
+#[test]
+fn no_further_line_of_a_crowded_certificate_can_go(rt: HostRuntime) -> Result<(), Fail> {
+    expect_trimmed(&rt, rt.alloc(), &SHARED_TASK, &CROWDED)
 }
 
 #[test]
 fn no_further_line_on_two_trucks_can_go(rt: HostRuntime) -> Result<(), Fail> {
-    expect_trimmed(&rt, rt.alloc(), TRUCKS_TASK, TRUCKS)
+    expect_trimmed(&rt, rt.alloc(), &TRUCKS_TASK, &TRUCKS)
 }
 
 #[test]
 fn needless_steps_of_a_node_are_dropped(rt: HostRuntime) -> Result<(), Fail> {
     let claim = Claim::Optimal(8);
-    expect_dropped(
-        &rt,
-        rt.alloc(),
-        SHARED_TASK,
-        SHARED,
-        claim,
-        &[19, 20, 23, 27],
-    )
+    let dropped = [19, 20, 23, 27];
+    expect_dropped(&rt, rt.alloc(), &SHARED_TASK, &SHARED, claim, &dropped)
+}
+
+#[test]
+fn needless_steps_of_a_crowded_certificate_are_dropped(rt: HostRuntime) -> Result<(), Fail> {
+    let claim = Claim::Optimal(8);
+    let dropped = [19, 20, 21, 22, 23, 26, 27, 28, 29, 33];
+    expect_dropped(&rt, rt.alloc(), &SHARED_TASK, &CROWDED, claim, &dropped)
 }
