@@ -192,18 +192,6 @@ impl Cells {
         }
     }
 
-    /// Whether an outside action is in the list of a token at a place among its preconditions, where the action is named by
-    /// its place among those that add the atom: their cells lie one behind the other.
-    pub fn lists_adder(&self, x: u32, j: usize, place: usize) -> bool
-        requires token { x < length self.now.sheet.tokens }
-        requires need { j < length (needs_at self.now.frame x) }
-        requires place { place < length (adders_at self.now.frame (atom_at self.now.frame x j)) }
-        ensures { result ≡ has (Cand.Out (slice_index (adders_at self.now.frame (atom_at self.now.frame x j)) place)) (list_in self.now.sheet x j) }
-    {
-        let first = self.outs_cell(x, j);
-        self.lists_behind(x, j, first, place)
-    }
-
     /// Where it stands whether the first of the outside actions that add the atom is in the list of a token at a place among
     /// its preconditions, and 0 where no action adds it.
     pub(crate) fn outs_cell(&self, x: u32, j: usize) -> usize
@@ -219,7 +207,9 @@ impl Cells {
         }
     }
 
-    /// The same as `lists_adder`, where the cell of the first of them is known.
+    /// Whether an outside action is in the list of a token at a place among its preconditions, where the action is named by
+    /// its place among those that add the atom and the cell of the first of them is known: their cells lie one behind the
+    /// other.
     pub(crate) fn lists_behind(&self, x: u32, j: usize, first: usize, place: usize) -> bool
         requires token { x < length self.now.sheet.tokens }
         requires need { j < length (needs_at self.now.frame x) }

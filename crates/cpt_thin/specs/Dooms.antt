@@ -67,6 +67,7 @@ pub record IsAlone (w v : Walk) : Type 0 where
   pub may_open : v.past.may_open ≡ w.past.may_open
   pub going : (t : TaskShape) (k : ℕ) → IsWalk t w → AreFew k w → IsGoing t k v
 
+-- the walk of which that place alone is left, where one is given
 abbrev pub MayBeAlone : Walk → Option Walk → Type 0
 MayBeAlone w None = ⊤
 MayBeAlone w (Some v) = IsAlone w v

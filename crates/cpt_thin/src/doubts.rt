@@ -161,7 +161,7 @@ fn is_doomed_node(
     }
 }
 
-/// Whether a fault stands in the lines that are left from the place on.
+/// Whether a fault is known to stand in the lines that are left from the place on. `false` tells nothing of them.
 pub fn is_doomed_at(
     alloc: Global,
     task: &Task,

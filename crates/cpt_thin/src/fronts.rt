@@ -47,7 +47,7 @@ pub fn begin_front() -> Front
 }
 
 /// Reads one line more. `None` where it is at fault.
-pub fn read_on(
+fn read_on(
     alloc: Global,
     task: &Task,
     front: Front,
