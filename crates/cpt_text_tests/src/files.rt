@@ -25,33 +25,41 @@ fn library(alloc: Global, fail: &[u64], most: usize) -> Result<MemLibrary, Alloc
     Ok(MemLibrary::with_pieces(files, fail.to_vec(alloc)?, most))
 }
 
-// Reads a file to its end, one that is too long, one that is not held, and one whose first pull fails.
-fn reads_in_pieces(rt: &impl Abort, alloc: Global, most: usize) -> Result<(), Fail>
+fn is_too_long(read: &Result<Vec<u8>, ReadError>) -> bool {
+    matches!(read, Err(ReadError::TooLong))
+}
+
+fn is_failed(read: &Result<Vec<u8>, ReadError>) -> bool {
+    matches!(read, Err(ReadError::Failed))
+}
+
+// Whether a file is read to its end, one is too long, and one is not held.
+fn reads_three(alloc: Global, most: usize) -> Result<bool, Fail>
     requires { 1 ≤ most }
 {
     let mut lib = library(alloc, &[], most)?;
     let bytes = read_all(alloc, &mut lib, "plan", 5)?;
-    assert_eq!(rt;
-        bytes.as_slice(),
-        b"a b c".as_slice(),
-        "in pieces of {most}"
-    );
     let long = read_all(alloc, &mut lib, "plan", 4);
-    assert!(rt;
-        matches!(long, Err(ReadError::TooLong)),
-        "in pieces of {most}"
-    );
     let missing = read_all(alloc, &mut lib, "task", 5);
-    assert!(rt;
-        matches!(missing, Err(ReadError::Failed)),
-        "in pieces of {most}"
-    );
-    let mut failing = library(alloc, &[1], most)?;
-    let failed = read_all(alloc, &mut failing, "plan", 5);
-    assert!(rt;
-        matches!(failed, Err(ReadError::Failed)),
-        "in pieces of {most}"
-    );
+    Ok(bytes.as_slice() == b"a b c".as_slice() && is_too_long(&long) && is_failed(&missing))
+}
+
+// Whether a file whose first pull fails is answered so.
+fn fails_first(alloc: Global, most: usize) -> Result<bool, Fail>
+    requires { 1 ≤ most }
+{
+    let mut lib = library(alloc, &[1], most)?;
+    let failed = read_all(alloc, &mut lib, "plan", 5);
+    Ok(is_failed(&failed))
+}
+
+fn reads_in_pieces(rt: &impl Abort, alloc: Global, most: usize) -> Result<(), Fail>
+    requires { 1 ≤ most }
+{
+    let is_read = reads_three(alloc, most)?;
+    assert!(rt; is_read, "in pieces of {most}");
+    let is_answered = fails_first(alloc, most)?;
+    assert!(rt; is_answered, "in pieces of {most}");
     Ok(())
 }
 
@@ -65,15 +73,20 @@ fn reads_files_in_memory(rt: HostRuntime) -> Result<(), Fail> {
     Ok(())
 }
 
-#[test]
-fn puts_into_memory(rt: HostRuntime) -> Result<(), Fail> {
-    let alloc = rt.alloc();
+// Whether a piece is put, one fails, and one fills what room there is.
+fn puts_three(alloc: Global) -> Result<bool, Fail> {
     let mut out = MemSink::new(alloc, 4, [1].to_vec(alloc)?)?;
     out.put(b"ab")?;
-    assert!(rt; out.put(b"c").is_err());
-    assert_eq!(rt; out.written(), b"ab".as_slice());
-    assert!(rt; out.put(b"cde").is_err());
-    assert_eq!(rt; out.written(), b"abcd".as_slice());
+    let is_failed = out.put(b"c").is_err();
+    let is_kept = out.written() == b"ab".as_slice();
+    let is_full = out.put(b"cde").is_err();
+    Ok(is_failed && is_kept && is_full && out.written() == b"abcd".as_slice())
+}
+
+#[test]
+fn puts_into_memory(rt: HostRuntime) -> Result<(), Fail> {
+    let is_so = puts_three(rt.alloc())?;
+    assert!(rt; is_so);
     Ok(())
 }
 
@@ -82,13 +95,9 @@ fn reads_a_real_file(rt: HostRuntime) -> Result<(), Fail> {
     fs::write(&rt, "plan.txt", b"5: (b)\n".as_slice())?;
     let mut lib = FileLibrary::new(&rt);
     let bytes = read_all(rt.alloc(), &mut lib, "plan.txt", 7)?;
-    assert_eq!(rt; bytes.as_slice(), b"5: (b)\n".as_slice());
-    assert!(rt;
-        matches!(
-            read_all(rt.alloc(), &mut lib, "missing.txt", 7),
-            Err(ReadError::Failed)
-        )
-    );
+    let missing = read_all(rt.alloc(), &mut lib, "missing.txt", 7);
+    let is_so = bytes.as_slice() == b"5: (b)\n".as_slice() && is_failed(&missing);
+    assert!(rt; is_so);
     Ok(())
 }
 

@@ -35,32 +35,41 @@ fn ids(alloc: Global, numbers: &[u32]) -> Result<Ids, Memory> {
     Ids::from_vec(numbers.to_vec(alloc)?).ok_or(Memory)
 }
 
+fn three_atoms(alloc: Global) -> Result<Vec<Name>, AllocError> {
+    let (r, p, q) = (
+        name(alloc, "(r)")?,
+        name(alloc, "(p)")?,
+        name(alloc, "(q)")?,
+    );
+    Ok(Vec::from_array(alloc, [r, p, q])?)
+}
+
+fn action(
+    alloc: Global,
+    called: &str,
+    dur: u32,
+    adds: u32,
+    deletes: &[u32],
+) -> Result<Action, Memory> {
+    Ok(Action {
+        name: name(alloc, called)?,
+        dur,
+        pre: ids(alloc, &[0])?,
+        add: ids(alloc, &[adds])?,
+        dele: ids(alloc, deletes)?,
+    })
+}
+
 // The actions (a), which lasts 5, and (b), which lasts 3 and deletes what (a) needs.
 fn two_actions(alloc: Global) -> Result<Task, Memory>
     ensures { IfOk result (λ task. length task.actions ≡ 2) }
 {
-    let atoms = Vec::from_array(
-        alloc,
-        [
-            name(alloc, "(r)")?,
-            name(alloc, "(p)")?,
-            name(alloc, "(q)")?,
-        ],
-    )?;
-    let a = Action {
-        name: name(alloc, "(a)")?,
-        dur: 5,
-        pre: ids(alloc, &[0])?,
-        add: ids(alloc, &[1])?,
-        dele: ids(alloc, &[])?,
-    };
-    let b = Action {
-        name: name(alloc, "(b)")?,
-        dur: 3,
-        pre: ids(alloc, &[0])?,
-        add: ids(alloc, &[2])?,
-        dele: ids(alloc, &[0])?,
-    };
+    let atoms = three_atoms(alloc)?;
+    if atoms.len() >= 100 {
+        return Err(Memory);
+    }
+    let a = action(alloc, "(a)", 5, 1, &[])?;
+    let b = action(alloc, "(b)", 3, 2, &[0])?;
     let actions = Vec::from_array(alloc, [a, b])?;
     match Task::build(atoms, actions, ids(alloc, &[0])?, ids(alloc, &[1, 2])?) {
         Ok(task) => Ok(task),
@@ -68,19 +77,27 @@ fn two_actions(alloc: Global) -> Result<Task, Memory>
     }
 }
 
-// Each occurrence as ACTION@START#LINE, or the fault.
-fn told(alloc: Global, read: &Result<PlanText, PlanTextError>) -> Result<String, AllocError> {
-    match read {
-        Ok(plan) => {
-            let mut text = String::new(alloc);
-            for (o, line) in plan.occs.as_slice().iter().zip(plan.lines.as_slice()) {
-                let occurrence = format!(in alloc; "{}@{}#{} ", o.act, o.start, line)?;
-                text.push_str(occurrence.as_str())?;
-            }
-            Ok(text)
-        }
-        Err(e) => format!(in alloc; "{e:?}"),
+// Each occurrence as ACTION@START#LINE.
+fn told_plan(alloc: Global, plan: &PlanText) -> Result<String, AllocError> {
+    let mut text = String::new(alloc);
+    for (o, line) in plan.occs.as_slice().iter().zip(plan.lines.as_slice()) {
+        let occurrence = format!(in alloc; "{}@{}#{} ", o.act, o.start, line)?;
+        text.push_str(occurrence.as_str())?;
     }
+    Ok(text)
+}
+
+// Whether the plan, or the fault, is told so.
+fn is_told(
+    alloc: Global,
+    read: &Result<PlanText, PlanTextError>,
+    wanted: &str,
+) -> Result<bool, AllocError> {
+    let text = match read {
+        Ok(plan) => told_plan(alloc, plan)?,
+        Err(e) => format!(in alloc; "{e:?}")?,
+    };
+    Ok(text.as_str() == wanted)
 }
 
 // Plan texts over the two actions, and how they are read.
@@ -139,27 +156,53 @@ fn over_the_yard() -> [(&'static str, &'static str); 5] {
     ]
 }
 
+// Whether the text is read so over the task.
+fn reads_so(alloc: Global, task: &Task, text: &str, wanted: &str) -> Result<bool, AllocError> {
+    if text.len() >= 100 {
+        return Ok(false);
+    }
+    tasks_know_actions();
+    is_told(
+        alloc,
+        &read_plan(alloc, task, task, text.as_bytes()),
+        wanted,
+    )
+}
+
+// Whether the text is read so over the yard.
+fn yard_reads_so(alloc: Global, task: &Task, text: &str, wanted: &str) -> Result<bool, AllocError> {
+    if text.len() >= 100 {
+        return Ok(false);
+    }
+    is_told(
+        alloc,
+        &read_plan(alloc, task, &Yard, text.as_bytes()),
+        wanted,
+    )
+}
+
 #[test]
 fn reads_plan_texts(rt: HostRuntime) -> Result<(), Fail> {
-    let alloc = rt.alloc();
-    let task = two_actions(alloc)?;
-    tasks_know_actions();
+    let task = two_actions(rt.alloc())?;
     for (text, wanted) in over_the_task() {
-        assert!(rt; text.len() < 100);
-        let read = read_plan(alloc, &task, &task, text.as_bytes());
-        assert_eq!(rt; told(alloc, &read)?.as_str(), wanted, "at {text}");
-    }
-    for (text, wanted) in over_the_yard() {
-        assert!(rt; text.len() < 100);
-        let read = read_plan(alloc, &task, &Yard, text.as_bytes());
-        assert_eq!(rt; told(alloc, &read)?.as_str(), wanted, "at {text}");
+        let is_so = reads_so(rt.alloc(), &task, text, wanted)?;
+        assert!(rt; is_so, "at {text}");
     }
     Ok(())
 }
 
 #[test]
-fn prints_plans(rt: HostRuntime) -> Result<(), Fail> {
-    let alloc = rt.alloc();
+fn reads_plan_texts_over_a_roster(rt: HostRuntime) -> Result<(), Fail> {
+    let task = two_actions(rt.alloc())?;
+    for (text, wanted) in over_the_yard() {
+        let is_so = yard_reads_so(rt.alloc(), &task, text, wanted)?;
+        assert!(rt; is_so, "at {text}");
+    }
+    Ok(())
+}
+
+// Whether the plan is printed, and nothing is for a plan without occurrences.
+fn is_printed(alloc: Global, text: &str) -> Result<bool, Fail> {
     let task = two_actions(alloc)?;
     let plan = [
         Occ { act: 1, start: 5 },
@@ -168,9 +211,14 @@ fn prints_plans(rt: HostRuntime) -> Result<(), Fail> {
     ];
     let mut out = MemSink::new(alloc, 100, Vec::new(alloc))?;
     print_plan(alloc, &task, &plan, &mut out)?;
-    let text = b"0: (a) [5]\n5: (a) [5]\n5: (b) [3]\n".as_slice();
-    assert_eq!(rt; out.written(), text);
+    let is_same = out.written() == text.as_bytes();
     print_plan(alloc, &task, &[], &mut out)?;
-    assert_eq!(rt; out.written(), text);
+    Ok(is_same && out.written() == text.as_bytes())
+}
+
+#[test]
+fn prints_plans(rt: HostRuntime) -> Result<(), Fail> {
+    let is_so = is_printed(rt.alloc(), "0: (a) [5]\n5: (a) [5]\n5: (b) [3]\n")?;
+    assert!(rt; is_so);
     Ok(())
 }

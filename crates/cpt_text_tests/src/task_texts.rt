@@ -38,13 +38,34 @@ fn changed(alloc: Global, place: u32, line: &str) -> Result<Vec<u8>, AllocError>
     Ok(text)
 }
 
+fn put_atoms(alloc: Global, text: &mut Vec<u8>) -> Result<(), AllocError> {
+    for i in 0..130 {
+        let line = format!(in alloc; "atom (p{i})")?;
+        push_line(text, line.as_str())?;
+    }
+    Ok(())
+}
+
+// The keyword and so many numbers, from 0 on.
+fn put_numbers(
+    alloc: Global,
+    text: &mut Vec<u8>,
+    keyword: &str,
+    count: u32,
+) -> Result<(), AllocError> {
+    text.extend_from_slice(keyword.as_bytes())?;
+    for i in 0..count {
+        let number = format!(in alloc; " {i}")?;
+        text.extend_from_slice(number.as_bytes())?;
+    }
+    text.extend_from_slice(b"\n")
+}
+
 // A task of 130 atoms, and an action with so many numbers in its lists.
 fn listing(alloc: Global, counts: [u32; 3]) -> Result<Vec<u8>, AllocError> {
     let mut text = Vec::new(alloc);
     push_line(&mut text, "task 130 1")?;
-    for i in 0..130 {
-        push_line(&mut text, format!(in alloc; "atom (p{i})")?.as_str())?;
-    }
+    put_atoms(alloc, &mut text)?;
     push_line(&mut text, "action (a) 100000")?;
     let [pre, add, dele] = counts;
     for (keyword, count) in [
@@ -54,11 +75,7 @@ fn listing(alloc: Global, counts: [u32; 3]) -> Result<Vec<u8>, AllocError> {
         ("init", 130),
         ("goal", 130),
     ] {
-        text.extend_from_slice(keyword.as_bytes())?;
-        for i in 0..count {
-            text.extend_from_slice(format!(in alloc; " {i}")?.as_bytes())?;
-        }
-        text.extend_from_slice(b"\n")?;
+        put_numbers(alloc, &mut text, keyword, count)?;
     }
     Ok(text)
 }
@@ -70,24 +87,42 @@ fn read(alloc: Global, text: &[u8]) -> Result<Task, TaskTextError> {
     read_task(alloc, text)
 }
 
+// Whether the text is read as a task that is printed as the text.
+fn is_printed_back(alloc: Global, text: &[u8]) -> Result<bool, Fail> {
+    let task = read(alloc, text).ok().ok_or("the text is a task")?;
+    let mut out = MemSink::new(alloc, 10_000, Vec::new(alloc))?;
+    if print_task(alloc, &task, &mut out).is_err() {
+        return Ok(false);
+    }
+    Ok(out.written() == text)
+}
+
 #[test]
 fn what_is_read_is_printed_back(rt: HostRuntime) -> Result<(), Fail> {
-    let alloc = rt.alloc();
-    let small = changed(alloc, 0, "")?;
-    let full = listing(alloc, [64, 128, 128])?;
-    for text in [small.as_slice(), full.as_slice(), b"task 0 0\ninit\ngoal\n"] {
-        let task = read(alloc, text).ok().ok_or("the text is a task")?;
-        let mut out = MemSink::new(alloc, 10_000, Vec::new(alloc))?;
-        assert!(rt; print_task(alloc, &task, &mut out).is_ok());
-        assert_eq!(rt; out.written(), text);
-    }
+    let small = changed(rt.alloc(), 0, "")?;
+    let is_small_back = is_printed_back(rt.alloc(), small.as_slice())?;
+    assert!(rt; is_small_back);
+    let is_none_back = is_printed_back(rt.alloc(), b"task 0 0\ninit\ngoal\n")?;
+    assert!(rt; is_none_back);
     Ok(())
 }
 
 #[test]
-fn the_first_fault_is_answered(rt: HostRuntime) -> Result<(), Fail> {
-    let alloc = rt.alloc();
-    let faulty_lines = [
+fn a_long_text_is_printed_back(rt: HostRuntime) -> Result<(), Fail> {
+    let full = listing(rt.alloc(), [64, 128, 128])?;
+    let is_back = is_printed_back(rt.alloc(), full.as_slice())?;
+    assert!(rt; is_back);
+    Ok(())
+}
+
+// Whether the text has this fault.
+fn has_fault(alloc: Global, text: &[u8], fault: TaskTextError) -> bool {
+    read(alloc, text).err() == Some(fault)
+}
+
+// Lines put in the place of others, by their place, each of which is the first fault.
+fn faulty_lines() -> [(u32, &'static str); 19] {
+    [
         (1, "task 3  2"),
         (1, "task 03 2"),
         (1, "task 5000 x"),
@@ -107,39 +142,54 @@ fn the_first_fault_is_answered(rt: HostRuntime) -> Result<(), Fail> {
         (6, "add 0"),
         (8, "del "),
         (13, "init 0 3"),
-    ];
-    for (number, line) in faulty_lines {
-        let text = changed(alloc, number, line)?;
-        assert_eq!(rt;
-            read(alloc, &text).err(),
-            Some(TaskTextError::Line(number)),
-            "{line}"
-        );
+    ]
+}
+
+#[test]
+fn the_first_faulty_line_is_answered(rt: HostRuntime) -> Result<(), Fail> {
+    for (number, line) in faulty_lines() {
+        let text = changed(rt.alloc(), number, line)?;
+        let is_found = has_fault(rt.alloc(), &text, TaskTextError::Line(number));
+        assert!(rt; is_found, "{line}");
     }
-    let faulty_texts = [
-        (b"".as_slice(), TaskTextError::Line(1)),
-        (b"task 0 0", TaskTextError::Line(1)),
-        (b"task 0 1\n", TaskTextError::Line(2)),
-        (b"task 0 0\ninit\n", TaskTextError::Line(3)),
-        (b"task 0 0\ninit\ngoal", TaskTextError::Line(3)),
-        (b"task 0 0\ninit\ngoal\nx", TaskTextError::Line(4)),
-        (b"task 2 0\natom p\nx\n", TaskTextError::Line(2)),
-        (b"task 2049 4097\n", TaskTextError::Limit(Limit::Atoms)),
-        (b"task 2048 4097\n", TaskTextError::Limit(Limit::Actions)),
+    Ok(())
+}
+
+// Texts, and their faults.
+fn faulty_texts() -> [(&'static str, TaskTextError); 10] {
+    [
+        ("", TaskTextError::Line(1)),
+        ("task 0 0", TaskTextError::Line(1)),
+        ("task 0 1\n", TaskTextError::Line(2)),
+        ("task 0 0\ninit\n", TaskTextError::Line(3)),
+        ("task 0 0\ninit\ngoal", TaskTextError::Line(3)),
+        ("task 0 0\ninit\ngoal\nx", TaskTextError::Line(4)),
+        ("task 2 0\natom p\nx\n", TaskTextError::Line(2)),
+        ("task 2049 4097\n", TaskTextError::Limit(Limit::Atoms)),
+        ("task 2048 4097\n", TaskTextError::Limit(Limit::Actions)),
         (
-            b"task 1000000000000000000000000000000000000000 0\n",
+            "task 1000000000000000000000000000000000000000 0\n",
             TaskTextError::Limit(Limit::Atoms),
         ),
-    ];
-    for (text, fault) in faulty_texts {
-        assert_eq!(rt; read(alloc, text).err(), Some(fault));
+    ]
+}
+
+#[test]
+fn the_first_fault_of_a_text_is_answered(rt: HostRuntime) -> Result<(), Fail> {
+    for (text, fault) in faulty_texts() {
+        let is_found = has_fault(rt.alloc(), text.as_bytes(), fault);
+        assert!(rt; is_found, "{text}");
     }
+    Ok(())
+}
+
+#[test]
+fn a_list_that_is_too_long_is_a_limit(rt: HostRuntime) -> Result<(), Fail> {
     for counts in [[65, 0, 0], [0, 129, 0], [0, 0, 129]] {
-        let text = listing(alloc, counts)?;
-        assert_eq!(rt;
-            read(alloc, &text).err(),
-            Some(TaskTextError::Limit(Limit::LongList))
-        );
+        let text = listing(rt.alloc(), counts)?;
+        let limit = TaskTextError::Limit(Limit::LongList);
+        let is_found = has_fault(rt.alloc(), &text, limit);
+        assert!(rt; is_found);
     }
     Ok(())
 }
