@@ -2,14 +2,16 @@
 
 ghost use Rattle.std.specs.Prelude.{◌≡◌, ◌∷◌, [], IfOk, if◌then◌else◌, length};
 ghost use Rattle.std.specs.Str.{bytes_eq};
+ghost use Rattle.cpt_task.specs.Timeline.{IsPlan};
 ghost use Rattle.cpt_plan_text.specs.declared.roster.Found.TheVariants.{Unknown, Unreachable};
 
-use cpt_io::MemSink;
+use cpt_io::{MemSink, Sink};
 use cpt_plan_text::{
     Found, PlanText, PlanTextError, Roster, print_plan, read_plan, tasks_know_actions,
 };
 use cpt_task::{Action, Ids, List, Memory, Name, Occ, Task};
 use std::alloc::{AllocError, Global};
+use std::process::Abort;
 use std::test::Fail;
 
 /// A roster that knows no action, and one that can never start.
@@ -100,61 +102,60 @@ fn is_told(
     Ok(text.as_str() == wanted)
 }
 
-// Plan texts over the two actions, and how they are read.
-fn over_the_task() -> [(&'static str, &'static str); 24] {
-    [
-        ("", ""),
-        ("0: (a)\n5: (b)\n", "0@0#1 1@5#2 "),
-        ("0: (a)", "0@0#1 "),
-        ("0: (A)\n", "0@0#1 "),
-        (
-            "0.000: (a) [5.0]\n005 : ( b )[ 3.00 ] ; late",
-            "0@0#1 1@5#2 ",
-        ),
-        (
-            "\t0:(a)\r\n\r\n; x\n \t; x\n5:\t(B)\t[3]\r\n",
-            "0@0#1 1@5#5 ",
-        ),
-        (
-            "0: (a) [0000000000000000000000000000000000000005]\n",
-            "0@0#1 ",
-        ),
-        (
-            "0: (a) [1000000000000000000000000000000000000000]\n",
-            "Duration(1, 5)",
-        ),
-        (
-            "1000000000000000000000000000000000000000: (a)\n",
-            "Limit(Start)",
-        ),
-        ("1000000000: (a)\n", "0@1000000000#1 "),
-        ("1000000001: (a)\n", "Limit(Start)"),
-        ("1000000001: (c)\n", "Unknown(1)"),
-        ("0.5: (a)\n", "Line(1)"),
-        ("5.: (a)\n", "Line(1)"),
-        ("0: ()\n", "Line(1)"),
-        ("0 (a)\n", "Line(1)"),
-        ("0: (a) x\n", "Line(1)"),
-        ("0: (a) [5\n", "Line(1)"),
-        ("0: (a]b[:)\n", "Unknown(1)"),
-        ("0: (a b)\n0 (a)\n", "Unknown(1)"),
-        ("0: (b) [4]\n", "Duration(1, 3)"),
-        ("0: (a) [4]\n0: (b) [4]\n", "Duration(1, 5)"),
-        ("0: (a) [4]\n0: (c)\n", "Unknown(2)"),
-        ("0: (c)\n0: (a) [4]\n", "Unknown(1)"),
-    ]
-}
+/// A plan text, and how it is read.
+type Case = (&'static str, &'static str);
 
-// Plan texts over the yard, and how they are read.
-fn over_the_yard() -> [(&'static str, &'static str); 5] {
-    [
-        ("0: (z)\n", "Unreachable(1)"),
-        ("0: (z) [7]\n", "Unreachable(1)"),
-        ("0: (z) [6]\n", "Duration(1, 7)"),
-        ("0: (z)\n0: (z) [6]\n", "Unreachable(1)"),
-        ("0: (z)\n0: (y)\n", "Unknown(2)"),
-    ]
-}
+// Plan texts over the two actions.
+const OVER_THE_TASK: [Case; 24] = [
+    ("", ""),
+    ("0: (a)\n5: (b)\n", "0@0#1 1@5#2 "),
+    ("0: (a)", "0@0#1 "),
+    ("0: (A)\n", "0@0#1 "),
+    (
+        "0.000: (a) [5.0]\n005 : ( b )[ 3.00 ] ; late",
+        "0@0#1 1@5#2 ",
+    ),
+    (
+        "\t0:(a)\r\n\r\n; x\n \t; x\n5:\t(B)\t[3]\r\n",
+        "0@0#1 1@5#5 ",
+    ),
+    (
+        "0: (a) [0000000000000000000000000000000000000005]\n",
+        "0@0#1 ",
+    ),
+    (
+        "0: (a) [1000000000000000000000000000000000000000]\n",
+        "Duration(1, 5)",
+    ),
+    (
+        "1000000000000000000000000000000000000000: (a)\n",
+        "Limit(Start)",
+    ),
+    ("1000000000: (a)\n", "0@1000000000#1 "),
+    ("1000000001: (a)\n", "Limit(Start)"),
+    ("1000000001: (c)\n", "Unknown(1)"),
+    ("0.5: (a)\n", "Line(1)"),
+    ("5.: (a)\n", "Line(1)"),
+    ("0: ()\n", "Line(1)"),
+    ("0 (a)\n", "Line(1)"),
+    ("0: (a) x\n", "Line(1)"),
+    ("0: (a) [5\n", "Line(1)"),
+    ("0: (a]b[:)\n", "Unknown(1)"),
+    ("0: (a b)\n0 (a)\n", "Unknown(1)"),
+    ("0: (b) [4]\n", "Duration(1, 3)"),
+    ("0: (a) [4]\n0: (b) [4]\n", "Duration(1, 5)"),
+    ("0: (a) [4]\n0: (c)\n", "Unknown(2)"),
+    ("0: (c)\n0: (a) [4]\n", "Unknown(1)"),
+];
+
+// Plan texts over the yard.
+const OVER_THE_YARD: [Case; 5] = [
+    ("0: (z)\n", "Unreachable(1)"),
+    ("0: (z) [7]\n", "Unreachable(1)"),
+    ("0: (z) [6]\n", "Duration(1, 7)"),
+    ("0: (z)\n0: (z) [6]\n", "Unreachable(1)"),
+    ("0: (z)\n0: (y)\n", "Unknown(2)"),
+];
 
 // Whether the text is read so over the task.
 fn reads_so(alloc: Global, task: &Task, text: &str, wanted: &str) -> Result<bool, AllocError> {
@@ -181,39 +182,63 @@ fn yard_reads_so(alloc: Global, task: &Task, text: &str, wanted: &str) -> Result
     )
 }
 
-#[test]
-fn reads_plan_texts(rt: HostRuntime) -> Result<(), Fail> {
-    let task = two_actions(rt.alloc())?;
-    for (text, wanted) in over_the_task() {
-        let is_so = reads_so(rt.alloc(), &task, text, wanted)?;
+fn expect_cases(
+    rt: &impl Abort,
+    alloc: Global,
+    cases: &[Case],
+    over_the_task: bool,
+) -> Result<(), Fail> {
+    let task = two_actions(alloc)?;
+    for (text, wanted) in cases {
+        let is_so = if over_the_task {
+            reads_so(alloc, &task, text, wanted)?
+        } else {
+            yard_reads_so(alloc, &task, text, wanted)?
+        };
         assert!(rt; is_so, "at {text}");
     }
     Ok(())
 }
 
 #[test]
+fn reads_plan_texts(rt: HostRuntime) -> Result<(), Fail> {
+    expect_cases(&rt, rt.alloc(), &OVER_THE_TASK, true)
+}
+
+#[test]
 fn reads_plan_texts_over_a_roster(rt: HostRuntime) -> Result<(), Fail> {
-    let task = two_actions(rt.alloc())?;
-    for (text, wanted) in over_the_yard() {
-        let is_so = yard_reads_so(rt.alloc(), &task, text, wanted)?;
-        assert!(rt; is_so, "at {text}");
-    }
+    expect_cases(&rt, rt.alloc(), &OVER_THE_YARD, false)
+}
+
+const SHUFFLED: [Occ; 3] = [
+    Occ { act: 1, start: 5 },
+    Occ { act: 0, start: 5 },
+    Occ { act: 0, start: 0 },
+];
+
+fn put_plan(alloc: Global, task: &Task, plan: &[Occ], out: &mut MemSink) -> Result<(), Fail>
+    requires plan { IsPlan task.now plan.now }
+    requires faults { ⟦<MemSink as Sink>⟧.faults out.old ≡ 0 }
+    ensures { IfOk result (λ u. ⟦<MemSink as Sink>⟧.faults out.new ≡ 0) }
+{
+    print_plan(alloc, task, plan, out)?;
     Ok(())
+}
+
+fn is_written(out: &MemSink, text: &str) -> bool {
+    out.written() == text.as_bytes()
 }
 
 // Whether the plan is printed, and nothing is for a plan without occurrences.
 fn is_printed(alloc: Global, text: &str) -> Result<bool, Fail> {
     let task = two_actions(alloc)?;
-    let plan = [
-        Occ { act: 1, start: 5 },
-        Occ { act: 0, start: 5 },
-        Occ { act: 0, start: 0 },
-    ];
     let mut out = MemSink::new(alloc, 100, Vec::new(alloc))?;
-    print_plan(alloc, &task, &plan, &mut out)?;
-    let is_same = out.written() == text.as_bytes();
-    print_plan(alloc, &task, &[], &mut out)?;
-    Ok(is_same && out.written() == text.as_bytes())
+    put_plan(alloc, &task, &SHUFFLED, &mut out)?;
+    if !is_written(&out, text) {
+        return Ok(false);
+    }
+    put_plan(alloc, &task, &[], &mut out)?;
+    Ok(is_written(&out, text))
 }
 
 #[test]

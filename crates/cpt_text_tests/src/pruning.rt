@@ -3,7 +3,7 @@
 ghost use Rattle.std.specs.Prelude.{◌≡◌, ◌<◌, ◌^◌, IfOk, vec_len};
 
 use cpt_reach::{Pruned, prune};
-use cpt_task::{Action, Ids, List, Memory, Task};
+use cpt_task::{Action, Ids, List, Memory, Name, Task};
 use std::alloc::Global;
 use std::test::Fail;
 
@@ -30,21 +30,28 @@ fn action(
     })
 }
 
-// The first action needs what only the second adds, and deletes an atom that is never reached. The third is never
-// possible. Of the goal, the last atom is never reached.
-fn sample(alloc: Global) -> Result<Task, Memory> {
+// The atoms `p` to `u`.
+fn atoms(alloc: Global) -> Result<Vec<Name>, Memory> {
     let mut atoms = Vec::new(alloc);
-    for letter in [b'p', b'q', b'r', b's', b't', b'u'] {
+    for letter in b'p'..=b'u' {
         atoms.push(List::from_vec(vec![in alloc; letter]?))?;
     }
-    let actions = Vec::from_array(
-        alloc,
-        [
-            action(alloc, b'a', &[1], &[2], &[0, 4])?,
-            action(alloc, b'b', &[0], &[1], &[])?,
-            action(alloc, b'c', &[0, 3], &[4], &[])?,
-        ],
-    )?;
+    Ok(atoms)
+}
+
+// The first action needs what only the second adds, and deletes an atom that is never reached. The third is never
+// possible.
+fn actions(alloc: Global) -> Result<Vec<Action>, Memory> {
+    let a = action(alloc, b'a', &[1], &[2], &[0, 4])?;
+    let b = action(alloc, b'b', &[0], &[1], &[])?;
+    let c = action(alloc, b'c', &[0, 3], &[4], &[])?;
+    Ok(Vec::from_array(alloc, [a, b, c])?)
+}
+
+// Of the goal, the last atom is never reached.
+fn sample(alloc: Global) -> Result<Task, Memory> {
+    let atoms = atoms(alloc)?;
+    let actions = actions(alloc)?;
     if atoms.len() >= 100 || actions.len() >= 100 {
         return Err(Memory);
     }
@@ -77,19 +84,18 @@ fn has_atoms(kept: &Task) -> bool {
     kept.atoms().len() == 4 && kept.init() == [0].as_slice() && kept.goal() == [2, 3].as_slice()
 }
 
+// Whether the atoms and the actions are kept that have these numbers.
+fn has_numbers(pruned: &Pruned) -> bool {
+    pruned.atoms.as_slice() == [0, 1, 2, 5].as_slice()
+        && pruned.actions.as_slice() == [0, 1].as_slice()
+}
+
 #[test]
 fn keeps_the_reached_part(rt: HostRuntime) -> Result<(), Fail> {
-    let alloc = rt.alloc();
-    let task = sample(alloc)?;
-    let Pruned {
-        task: kept,
-        atoms,
-        actions,
-    } = prune(alloc, &task)?;
-    let is_numbered = atoms.as_slice() == [0, 1, 2, 5].as_slice()
-        && actions.as_slice() == [0, 1].as_slice();
-    assert!(rt; is_numbered);
-    assert!(rt; has_atoms(&kept));
-    assert!(rt; has_actions(&kept));
+    let task = sample(rt.alloc())?;
+    let pruned = prune(rt.alloc(), &task)?;
+    assert!(rt; has_numbers(&pruned));
+    assert!(rt; has_atoms(&pruned.task));
+    assert!(rt; has_actions(&pruned.task));
     Ok(())
 }

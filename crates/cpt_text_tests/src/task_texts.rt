@@ -4,6 +4,7 @@ use cpt_io::MemSink;
 use cpt_task::{Limit, Task};
 use cpt_task_text::{TaskTextError, print_task, read_task};
 use std::alloc::{AllocError, Global};
+use std::process::Abort;
 use std::test::Fail;
 
 // Two actions over three atoms.
@@ -61,22 +62,22 @@ fn put_numbers(
     text.extend_from_slice(b"\n")
 }
 
+fn put_action(alloc: Global, text: &mut Vec<u8>, counts: [u32; 3]) -> Result<(), AllocError> {
+    let [pre, add, dele] = counts;
+    push_line(text, "action (a) 100000")?;
+    put_numbers(alloc, text, "pre", pre)?;
+    put_numbers(alloc, text, "add", add)?;
+    put_numbers(alloc, text, "del", dele)
+}
+
 // A task of 130 atoms, and an action with so many numbers in its lists.
 fn listing(alloc: Global, counts: [u32; 3]) -> Result<Vec<u8>, AllocError> {
     let mut text = Vec::new(alloc);
     push_line(&mut text, "task 130 1")?;
     put_atoms(alloc, &mut text)?;
-    push_line(&mut text, "action (a) 100000")?;
-    let [pre, add, dele] = counts;
-    for (keyword, count) in [
-        ("pre", pre),
-        ("add", add),
-        ("del", dele),
-        ("init", 130),
-        ("goal", 130),
-    ] {
-        put_numbers(alloc, &mut text, keyword, count)?;
-    }
+    put_action(alloc, &mut text, counts)?;
+    put_numbers(alloc, &mut text, "init", 130)?;
+    put_numbers(alloc, &mut text, "goal", 130)?;
     Ok(text)
 }
 
@@ -121,66 +122,74 @@ fn has_fault(alloc: Global, text: &[u8], fault: TaskTextError) -> bool {
 }
 
 // Lines put in the place of others, by their place, each of which is the first fault.
-fn faulty_lines() -> [(u32, &'static str); 19] {
-    [
-        (1, "task 3  2"),
-        (1, "task 03 2"),
-        (1, "task 5000 x"),
-        (3, "atom p"),
-        (3, "atom (P)"),
-        (3, "atom (p )"),
-        (3, "atom (r)"),
-        (5, "action (a) 0"),
-        (5, "action (a) 100001"),
-        (5, "action (a) 5 "),
-        (5, "action (a)5"),
-        (9, "action (a) 3"),
-        (6, "pre 3"),
-        (6, "pre 1 0"),
-        (6, "pre 1 1"),
-        (6, "pre 00"),
-        (6, "add 0"),
-        (8, "del "),
-        (13, "init 0 3"),
-    ]
-}
+const FAULTY_LINES: [(u32, &str); 19] = [
+    (1, "task 3  2"),
+    (1, "task 03 2"),
+    (1, "task 5000 x"),
+    (3, "atom p"),
+    (3, "atom (P)"),
+    (3, "atom (p )"),
+    (3, "atom (r)"),
+    (5, "action (a) 0"),
+    (5, "action (a) 100001"),
+    (5, "action (a) 5 "),
+    (5, "action (a)5"),
+    (9, "action (a) 3"),
+    (6, "pre 3"),
+    (6, "pre 1 0"),
+    (6, "pre 1 1"),
+    (6, "pre 00"),
+    (6, "add 0"),
+    (8, "del "),
+    (13, "init 0 3"),
+];
 
-#[test]
-fn the_first_faulty_line_is_answered(rt: HostRuntime) -> Result<(), Fail> {
-    for (number, line) in faulty_lines() {
-        let text = changed(rt.alloc(), number, line)?;
-        let is_found = has_fault(rt.alloc(), &text, TaskTextError::Line(number));
+fn expect_faulty_lines(rt: &impl Abort, alloc: Global, lines: &[(u32, &str)]) -> Result<(), Fail> {
+    for (number, line) in lines {
+        let text = changed(alloc, *number, line)?;
+        let is_found = has_fault(alloc, &text, TaskTextError::Line(*number));
         assert!(rt; is_found, "{line}");
     }
     Ok(())
 }
 
+#[test]
+fn the_first_faulty_line_is_answered(rt: HostRuntime) -> Result<(), Fail> {
+    expect_faulty_lines(&rt, rt.alloc(), &FAULTY_LINES)
+}
+
 // Texts, and their faults.
-fn faulty_texts() -> [(&'static str, TaskTextError); 10] {
-    [
-        ("", TaskTextError::Line(1)),
-        ("task 0 0", TaskTextError::Line(1)),
-        ("task 0 1\n", TaskTextError::Line(2)),
-        ("task 0 0\ninit\n", TaskTextError::Line(3)),
-        ("task 0 0\ninit\ngoal", TaskTextError::Line(3)),
-        ("task 0 0\ninit\ngoal\nx", TaskTextError::Line(4)),
-        ("task 2 0\natom p\nx\n", TaskTextError::Line(2)),
-        ("task 2049 4097\n", TaskTextError::Limit(Limit::Atoms)),
-        ("task 2048 4097\n", TaskTextError::Limit(Limit::Actions)),
-        (
-            "task 1000000000000000000000000000000000000000 0\n",
-            TaskTextError::Limit(Limit::Atoms),
-        ),
-    ]
+const FAULTY_TEXTS: [(&str, TaskTextError); 10] = [
+    ("", TaskTextError::Line(1)),
+    ("task 0 0", TaskTextError::Line(1)),
+    ("task 0 1\n", TaskTextError::Line(2)),
+    ("task 0 0\ninit\n", TaskTextError::Line(3)),
+    ("task 0 0\ninit\ngoal", TaskTextError::Line(3)),
+    ("task 0 0\ninit\ngoal\nx", TaskTextError::Line(4)),
+    ("task 2 0\natom p\nx\n", TaskTextError::Line(2)),
+    ("task 2049 4097\n", TaskTextError::Limit(Limit::Atoms)),
+    ("task 2048 4097\n", TaskTextError::Limit(Limit::Actions)),
+    (
+        "task 1000000000000000000000000000000000000000 0\n",
+        TaskTextError::Limit(Limit::Atoms),
+    ),
+];
+
+fn expect_faults(
+    rt: &impl Abort,
+    alloc: Global,
+    faults: &[(&str, TaskTextError)],
+) -> Result<(), Fail> {
+    for (text, fault) in faults {
+        let is_found = has_fault(alloc, text.as_bytes(), *fault);
+        assert!(rt; is_found, "{text}");
+    }
+    Ok(())
 }
 
 #[test]
 fn the_first_fault_of_a_text_is_answered(rt: HostRuntime) -> Result<(), Fail> {
-    for (text, fault) in faulty_texts() {
-        let is_found = has_fault(rt.alloc(), text.as_bytes(), fault);
-        assert!(rt; is_found, "{text}");
-    }
-    Ok(())
+    expect_faults(&rt, rt.alloc(), &FAULTY_TEXTS)
 }
 
 #[test]
