@@ -7,7 +7,6 @@ ghost use Rattle.cpt_sheet.specs.Gaps.{FitsTask};
 ghost use Rattle.cpt_store.specs.Stores.{IsLent};
 
 use crate::moves::decide;
-use crate::tasks::{ALL_RULES, tables_of};
 use cpt_branch::{children, first_flaw};
 use cpt_domain::{Domain, read_domain};
 use cpt_engine::{Engine, State};
@@ -15,6 +14,7 @@ use cpt_gen::make;
 use cpt_ground::ground;
 use cpt_problem::{Problem, read_problem};
 use cpt_reach::{Pruned, prune};
+use cpt_scan::{ALL_RULES, tables_of};
 use cpt_sexp::{Forest, parse};
 use cpt_sheet::{Decision, Step};
 use cpt_store::{Ctx, Rule, Store, Subject};

@@ -4,8 +4,8 @@
 #[cfg(test)]
 mod calls;
 #[cfg(test)]
-mod chains;
+mod commands;
 #[cfg(test)]
 mod moves;
 #[cfg(test)]
-mod tasks;
+mod resource;

@@ -2,8 +2,8 @@ use Rattle.std.proofs.Common.{◌<◌, length, sym, ◌∙◌, subst}
 use Rattle.cpt_sheet.specs.declared.data.Sheet.{Sheet}
 use Rattle.cpt_sheet.specs.Formed.{IsFormed}
 use Rattle.cpt_calculus.specs.Decisions.{Fits}
-use Rattle.cpt_engine.proofs.RunLemmas.{applied_is, formed_applied}
-use Rattle.cpt_engine_tests.proofs.moves.apply_to.Goals as goal
+use Rattle.cpt_scan.proofs.MoveLemmas.{decided_formed, kept_from}
+use Rattle.cpt_scan.proofs.moves.apply_to.Goals as goal
 
 pub apply-requires-clause-lent : goal.apply-requires-clause-lent
 apply-requires-clause-lent g c = record {
@@ -18,10 +18,12 @@ apply-requires-clause-fits g c = subst (λ (z : Sheet). Fits z c.args.decision.n
 pub apply-requires-clause-few : goal.apply-requires-clause-few
 apply-requires-clause-few g c = subst (λ (z : Sheet). length z.tokens < 4200000000) (sym c.in_ok-reserve.ensures.sheet) c.requires.few
 
-pub returns : goal.returns
-returns g c = record {
+pub returns-clause-lent : goal.returns-clause-lent
+returns-clause-lent g c = record {
   task = c.apply.ensures.task ∙ (c.in_ok-reserve.ensures.task ∙ c.requires.lent.task);
   fits = c.requires.lent.fits;
-  formed = formed_applied c.args.ctx.now.task.now _ c.args.store.now.sheet c.args.decision.now
-      (applied_is c.args.ctx.now.task.now _ _ _ c.args.decision.now c.apply.ensures.sheet c.in_ok-reserve.ensures.sheet) c.requires.fits c.requires.lent.formed;
+  formed = decided_formed c.args.ctx.now.task.now _ _ c.args.store.now.sheet c.args.decision.now c.apply.ensures.sheet c.in_ok-reserve.ensures.sheet c.requires.fits c.requires.lent.formed;
 }
+
+pub returns-clause-marks : goal.returns-clause-marks
+returns-clause-marks g c = kept_from _ _ _ c.in_ok-reserve.ensures.marks c.apply.ensures.marks

@@ -6,8 +6,7 @@ ghost use Rattle.cpt_tables.specs.declared.tables.Tables.{Tables};
 ghost use Rattle.cpt_sheet.specs.Gaps.{FitsTask};
 ghost use Rattle.cpt_store.specs.Stores.{IsLent};
 
-use crate::moves::{decide_in, narrow_in, step_at, wakes};
-use crate::tasks::{ALL_RULES, CHAINS, task_of, zero_tables_of};
+use cpt_scan::{ALL_RULES, CHAINS, decide_in, narrow_in, step_at, task_of, wakes, zero_tables_of};
 use cpt_sheet::Cand::{Out, Tok};
 use cpt_sheet::{Decision, Step};
 use cpt_store::{Ctx, Store};

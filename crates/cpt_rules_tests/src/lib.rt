@@ -1,0 +1,5 @@
+//! Tests of the store and the rules together, beside the calculus.
+#![tactic(auto)]
+
+#[cfg(test)]
+mod chains;

@@ -1,0 +1,5 @@
+use Rattle.cpt_sheet.specs.Formed.{IsFormed}
+use Rattle.cpt_scan.proofs.closing.exhaust.Given as goal
+
+abbrev pub invariant-loop : goal.invariant-loop
+invariant-loop l = IsFormed l.ctx.task.now l.sheet
