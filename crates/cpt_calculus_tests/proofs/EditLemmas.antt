@@ -1,5 +1,5 @@
 -- changes after which a formed sheet is formed
-use Rattle.std.proofs.Common.{◌≡◌, ℕ, List, [], ◌∷◌, Bool, true, false, if◌then◌else◌, lit≤, sym, ◌∙◌, ap, subst, arith}
+use Rattle.std.proofs.Common.{◌≡◌, List, [], ◌∷◌, Bool, true, false, if◌then◌else◌, lit≤, sym, ◌∙◌, ap, subst}
 use Rattle.cpt_task.specs.declared.span.Span.TheVariants.{At, Never}
 use Rattle.cpt_task.specs.Shape.{TaskShape}
 use Rattle.cpt_tables.specs.Spans.{IsBelow}
@@ -10,7 +10,7 @@ use Rattle.cpt_sheet.specs.declared.data.Sheet.{Sheet}
 use Rattle.cpt_sheet.specs.declared.data.Step.{Step}
 use Rattle.cpt_sheet.specs.declared.data.Change.{Change}
 use Rattle.cpt_sheet.specs.declared.data.Change.TheVariants.{Raise, Lower, Take, Post}
-use Rattle.cpt_sheet.specs.View.{lo, span_of, cands, has, same}
+use Rattle.cpt_sheet.specs.View.{lo, span_of, cands, same}
 use Rattle.cpt_sheet.specs.Edits.{changed, without}
 use Rattle.cpt_sheet.specs.Formed.{IsFormed, IsAscending}
 use Rattle.cpt_sheet.proofs.FormedLemmas.{lo_below}

@@ -60,10 +60,19 @@ fn sheet_of(alloc: Global, task: &Task, scene: &Scene, edits: &[Edit]) -> Option
     Some(sheet)
 }
 
+fn fits_at(task: &Task, sheet: &Sheet, decision: &Decision) -> bool {
+    fits(task, sheet, decision)
+}
+
+fn edit_fits(task: &Task, sheet: &Sheet, edit: Edit) -> Option<bool> {
+    let decision = decision_of(edit)?;
+    Some(fits_at(task, sheet, &decision))
+}
+
 fn fits_there(alloc: Global, scene: &Scene, edit: Edit) -> Option<bool> {
     let task = task_of(alloc, scene)?;
     let sheet = sheet_of(alloc, &task, scene, &[])?;
-    Some(fits(&task, &sheet, &decision_of(edit)?))
+    edit_fits(&task, &sheet, edit)
 }
 
 const FITTING: &[(Edit, bool)] = &[
@@ -85,19 +94,27 @@ const FITTING: &[(Edit, bool)] = &[
     (Post(5, 2), false),
 ];
 
-#[test]
-fn decisions_fit_where_their_parts_are_there(rt: HostRuntime) -> Result<(), Fail> {
-    for row in FITTING {
-        let found = fits_there(rt.alloc(), &WORKSHOP, row.0);
+fn expect_fits(rt: &impl Abort, alloc: Global, rows: &[(Edit, bool)]) -> Result<(), Fail> {
+    for row in rows {
+        let found = fits_there(alloc, &WORKSHOP, row.0);
         assert_eq!(rt; found, Some(row.1), "{:?}", row.0);
     }
     Ok(())
 }
 
+#[test]
+fn decisions_fit_where_their_parts_are_there(rt: HostRuntime) -> Result<(), Fail> {
+    expect_fits(&rt, rt.alloc(), FITTING)
+}
+
+fn is_flaw_at(task: &Task, sheet: &Sheet, flaw: &Flaw) -> bool {
+    is_flaw(task, sheet, flaw)
+}
+
 fn is_flaw_there(alloc: Global, scene: &Scene, edits: &[Edit], gap: Gap) -> Option<bool> {
     let task = task_of(alloc, scene)?;
     let sheet = sheet_of(alloc, &task, scene, edits)?;
-    Some(is_flaw(&task, &sheet, &flaw_of(gap)))
+    Some(is_flaw_at(&task, &sheet, &flaw_of(gap)))
 }
 
 fn expect_gaps(
@@ -176,7 +193,7 @@ fn flaws_stand_where_their_parts_do(rt: HostRuntime) -> Result<(), Fail> {
 
 /// Pushes the flaw where it stands.
 fn push_flaw(task: &Task, sheet: &Sheet, found: &mut Vec<Gap>, gap: Gap) -> Option<()> {
-    if is_flaw(task, sheet, &flaw_of(gap)) {
+    if is_flaw_at(task, sheet, &flaw_of(gap)) {
         found.push(gap).ok()?;
     }
     Some(())
@@ -227,16 +244,30 @@ fn gaps_of(alloc: Global, scene: &Scene, edits: &[Edit]) -> Option<Vec<Gap>> {
     Some(found)
 }
 
-/// The children of the flaw, where it stands.
-fn children_of(alloc: Global, scene: &Scene, edits: &[Edit], gap: Gap) -> Option<Vec<Edit>> {
+/// The children of the flaw; None where it does not stand.
+fn found_children(alloc: Global, task: &Task, sheet: &Sheet, flaw: &Flaw) -> Option<Vec<Decision>> {
+    if is_flaw(task, sheet, flaw) {
+        flaw_children(alloc, task, sheet, flaw).ok()
+    } else {
+        None
+    }
+}
+
+/// The children of the flaw at the sheet of the scene after the edits; None where it does not stand.
+fn children_of(alloc: Global, scene: &Scene, edits: &[Edit], gap: Gap) -> Option<Vec<Decision>> {
     let task = task_of(alloc, scene)?;
     let sheet = sheet_of(alloc, &task, scene, edits)?;
-    let flaw = flaw_of(gap);
-    if !is_flaw(&task, &sheet, &flaw) {
-        return None;
-    }
-    let children = flaw_children(alloc, &task, &sheet, &flaw).ok()?;
-    children.iter().map(|d| edit_of(*d)).collect(alloc).ok()
+    found_children(alloc, &task, &sheet, &flaw_of(gap))
+}
+
+fn edits_of(alloc: Global, decisions: &[Decision]) -> Option<Vec<Edit>> {
+    decisions.iter().map(|d| edit_of(*d)).collect(alloc).ok()
+}
+
+/// The children of the flaw, as edits.
+fn edits_for(alloc: Global, scene: &Scene, edits: &[Edit], gap: Gap) -> Option<Vec<Edit>> {
+    let children = children_of(alloc, scene, edits, gap)?;
+    edits_of(alloc, &children)
 }
 
 /// A flaw with its children.
@@ -250,7 +281,7 @@ fn expect_children(
     families: &[Family],
 ) -> Result<(), Fail> {
     for family in families {
-        let Some(found) = children_of(alloc, scene, edits, family.0) else {
+        let Some(found) = edits_for(alloc, scene, edits, family.0) else {
             return Err("no flaw")?;
         };
         assert_eq!(rt;
@@ -279,24 +310,31 @@ fn expect_families(
     expect_children(rt, alloc, scene, edits, families)
 }
 
-#[test]
-fn flaws_of_a_shared_resource(rt: HostRuntime) -> Result<(), Fail> {
-    let alloc = rt.alloc();
-    expect_families(
-        &rt,
-        alloc,
-        &RESOURCE,
+/// Edits, and the flaws after them.
+type Sight = (&'static [Edit], &'static [Family]);
+
+fn expect_sights(
+    rt: &impl Abort,
+    alloc: Global,
+    scene: &Scene,
+    sights: &[Sight],
+) -> Result<(), Fail> {
+    for sight in sights {
+        expect_families(rt, alloc, scene, sight.0, sight.1)?;
+    }
+    Ok(())
+}
+
+const OF_A_SHARED_RESOURCE: &[Sight] = &[
+    (
         &[],
         &[
             (Gap::Need(1, 1), &[Bring(1, 1, 0)]),
             (Gap::Need(1, 2), &[Bring(1, 2, 1)]),
             (Gap::Need(1, 3), &[Bring(1, 3, 2)]),
         ],
-    )?;
-    expect_families(
-        &rt,
-        alloc,
-        &RESOURCE,
+    ),
+    (
         &[Bring(1, 1, 0)],
         &[
             (Gap::Need(1, 2), &[Bring(1, 2, 1)]),
@@ -311,11 +349,8 @@ fn flaws_of_a_shared_resource(rt: HostRuntime) -> Result<(), Fail> {
                 ],
             ),
         ],
-    )?;
-    expect_families(
-        &rt,
-        alloc,
-        &RESOURCE,
+    ),
+    (
         &[Bring(1, 1, 0), Bring(1, 2, 1), Join(2, 0, 0)],
         &[
             (Gap::Threat(2, 0, 3), &[Post(3, 0), Post(2, 3)]),
@@ -332,29 +367,26 @@ fn flaws_of_a_shared_resource(rt: HostRuntime) -> Result<(), Fail> {
             ),
             (Gap::Clash(2, 3), &[Post(2, 3), Post(3, 2)]),
         ],
-    )
+    ),
+];
+
+#[test]
+fn flaws_of_a_shared_resource(rt: HostRuntime) -> Result<(), Fail> {
+    expect_sights(&rt, rt.alloc(), &RESOURCE, OF_A_SHARED_RESOURCE)
 }
 
 /// The key that is used up, at the bound of its shortest plan.
 const KEY_IN_SIX: Scene = Scene { bound: 6, ..KEY };
 
-#[test]
-fn flaws_of_a_key_that_is_used_up(rt: HostRuntime) -> Result<(), Fail> {
-    let alloc = rt.alloc();
-    expect_families(
-        &rt,
-        alloc,
-        &KEY_IN_SIX,
+const OF_A_KEY: &[Sight] = &[
+    (
         &[],
         &[
             (Gap::Need(1, 1), &[Bring(1, 1, 1)]),
             (Gap::Need(1, 2), &[Bring(1, 2, 2)]),
         ],
-    )?;
-    expect_families(
-        &rt,
-        alloc,
-        &KEY_IN_SIX,
+    ),
+    (
         &[Bring(1, 2, 2), Bring(2, 0, 0), Bring(1, 1, 1)],
         &[
             (Gap::Threat(2, 0, 4), &[Post(4, 3), Post(2, 4)]),
@@ -362,34 +394,22 @@ fn flaws_of_a_key_that_is_used_up(rt: HostRuntime) -> Result<(), Fail> {
             (Gap::Clash(2, 4), &[Post(2, 4), Post(4, 2)]),
             (Gap::Clash(3, 4), &[Post(3, 4), Post(4, 3)]),
         ],
-    )
-}
-
-const TWO_KEYS: &[Edit] = &[
-    Bring(1, 2, 2),
-    Bring(2, 0, 0),
-    Bring(1, 1, 1),
-    Bring(4, 0, 0),
-];
-
-const KEYS_IN_TURN: &[Edit] = &[
-    Bring(1, 2, 2),
-    Bring(2, 0, 0),
-    Bring(1, 1, 1),
-    Bring(4, 0, 0),
-    Post(2, 5),
-    Post(2, 4),
-    Post(3, 4),
+    ),
 ];
 
 #[test]
-fn flaws_of_two_keys(rt: HostRuntime) -> Result<(), Fail> {
-    let alloc = rt.alloc();
-    expect_families(
-        &rt,
-        alloc,
-        &KEY_IN_SIX,
-        TWO_KEYS,
+fn flaws_of_a_key_that_is_used_up(rt: HostRuntime) -> Result<(), Fail> {
+    expect_sights(&rt, rt.alloc(), &KEY_IN_SIX, OF_A_KEY)
+}
+
+const OF_TWO_KEYS: &[Sight] = &[
+    (
+        &[
+            Bring(1, 2, 2),
+            Bring(2, 0, 0),
+            Bring(1, 1, 1),
+            Bring(4, 0, 0),
+        ],
         &[
             (Gap::Threat(2, 0, 4), &[Post(4, 3), Post(2, 4)]),
             (Gap::Threat(4, 0, 2), &[Post(2, 5), Post(4, 2)]),
@@ -397,8 +417,24 @@ fn flaws_of_two_keys(rt: HostRuntime) -> Result<(), Fail> {
             (Gap::Clash(2, 5), &[Post(2, 5), Post(5, 2)]),
             (Gap::Clash(3, 4), &[Post(3, 4), Post(4, 3)]),
         ],
-    )?;
-    expect_families(&rt, alloc, &KEY_IN_SIX, KEYS_IN_TURN, &[])
+    ),
+    (
+        &[
+            Bring(1, 2, 2),
+            Bring(2, 0, 0),
+            Bring(1, 1, 1),
+            Bring(4, 0, 0),
+            Post(2, 5),
+            Post(2, 4),
+            Post(3, 4),
+        ],
+        &[],
+    ),
+];
+
+#[test]
+fn flaws_of_two_keys(rt: HostRuntime) -> Result<(), Fail> {
+    expect_sights(&rt, rt.alloc(), &KEY_IN_SIX, OF_TWO_KEYS)
 }
 
 fn is_dead_there(alloc: Global, scene: &Scene, edits: &[Edit]) -> Option<bool> {
@@ -426,11 +462,19 @@ const DYING: &[(&[Edit], bool)] = &[
     (&[Lo(Out(0), Never)], false),
 ];
 
-#[test]
-fn a_sheet_is_dead_by_an_interval_or_an_empty_list(rt: HostRuntime) -> Result<(), Fail> {
-    for row in DYING {
-        let found = is_dead_there(rt.alloc(), &WORKSHOP, row.0);
-        assert_eq!(rt; found, Some(row.1), "after {:?}", row.0);
+fn expect_deaths(
+    rt: &impl Abort,
+    alloc: Global,
+    rows: &[(&'static [Edit], bool)],
+) -> Result<(), Fail> {
+    for row in rows {
+        let found = is_dead_there(alloc, &WORKSHOP, row.0);
+        assert_eq!(rt; found, Some(row.1));
     }
     Ok(())
+}
+
+#[test]
+fn a_sheet_is_dead_by_an_interval_or_an_empty_list(rt: HostRuntime) -> Result<(), Fail> {
+    expect_deaths(&rt, rt.alloc(), DYING)
 }

@@ -23,7 +23,7 @@ use std::process::Abort;
 use std::test::Fail;
 
 /// What is done to a sheet: a legal step, or an edit.
-#[derive(Clone, Copy, Debug)]
+#[derive(Clone, Copy)]
 pub enum Turn {
     Take(Line),
     Edit(Edit),
@@ -108,14 +108,33 @@ fn take_turns(task: &Task, tables: &Tables, sheet: &mut Sheet, turns: &[Turn]) -
     Some(())
 }
 
+/// The sheet of the scene after these turns, over its task and tables.
+fn walked_over(
+    alloc: Global,
+    scene: &Scene,
+    task: &Task,
+    tables: &Tables,
+    turns: &[Turn],
+) -> Option<Sheet>
+    requires { FitsTask task.now tables.now }
+{
+    let mut sheet = root_of(alloc, task, tables, scene.bound)?;
+    edit_all(task, &mut sheet, scene.edits)?;
+    take_turns(task, tables, &mut sheet, turns)?;
+    Some(sheet)
+}
+
 /// The sheet of the scene after these turns; None where a step is not legal.
 pub fn walked(alloc: Global, scene: &Scene, turns: &[Turn]) -> Option<Sheet> {
     let task = task_of(alloc, scene)?;
     let tables = tables_of(alloc, scene, &task)?;
-    let mut sheet = root_of(alloc, &task, &tables, scene.bound)?;
-    edit_all(&task, &mut sheet, scene.edits)?;
-    take_turns(&task, &tables, &mut sheet, turns)?;
-    Some(sheet)
+    walked_over(alloc, scene, &task, &tables, turns)
+}
+
+/// Whether a copy of the sheet has this bound and these parts.
+fn is_copied(alloc: Global, sheet: &Sheet, bound: u64, wanted: &Wanted) -> Option<bool> {
+    let copy = copy_sheet(alloc, sheet).ok()?;
+    Some(is_sheet(&copy, bound, wanted))
 }
 
 /// Compares the sheet after these turns, and a copy of it, with the wanted one.
@@ -130,19 +149,29 @@ fn expect_sheet(
     let Some(sheet) = walked(alloc, scene, turns) else {
         return Err("a turn is refused")?;
     };
-    assert!(rt;
-        is_sheet(&sheet, scene.bound, wanted),
-        "{sheet:?} after {turns:?}"
-    );
-    assert_eq!(rt; is_dead(&sheet), dead);
-    let Ok(copy) = copy_sheet(alloc, &sheet) else {
-        return Err("memory")?;
-    };
-    assert!(rt;
-        is_sheet(&copy, scene.bound, wanted),
-        "a copy after {turns:?}"
-    );
+    let found = is_sheet(&sheet, scene.bound, wanted) && is_dead(&sheet) == dead;
+    assert!(rt; found, "{sheet:?}");
+    let copied = is_copied(alloc, &sheet, scene.bound, wanted);
+    assert_eq!(rt; copied, Some(true), "a copy of {sheet:?}");
     Ok(())
+}
+
+/// A scene, turns, the sheet after them, and whether it is dead.
+type Case = (&'static Scene, &'static [Turn], &'static Wanted, bool);
+
+fn expect_sheets(rt: &impl Abort, alloc: Global, cases: &[Case]) -> Result<(), Fail> {
+    for case in cases {
+        expect_sheet(rt, alloc, case.0, case.1, case.2, case.3)?;
+    }
+    Ok(())
+}
+
+/// Each of these lists of turns has a step that is not legal where its turn comes.
+fn expect_refusals(rt: &impl Abort, alloc: Global, scene: &Scene, lists: &[&'static [Turn]]) {
+    for turns in lists {
+        let refused = walked(alloc, scene, turns).is_none();
+        assert!(rt; refused);
+    }
 }
 
 /// Action 0 lasts 1 and adds the key; action 1 lasts 2, needs the key and adds the goal.
@@ -189,16 +218,25 @@ const LATE: Wanted = (
     &[(0, 1), (0, 2), (2, 1)],
 );
 
+const BRING: Turn = Turn::Edit(Bring(1, 1, 1));
+
+const WITHIN_TWO: &[Case] = &[
+    (&TWO_ACTIONS, &[], &ROOT, false),
+    (&TWO_ACTIONS, &[BRING], &BROUGHT, false),
+    (
+        &TWO_ACTIONS,
+        &[BRING, Turn::Take(R4(2, 0, At(1)))],
+        &LATE,
+        true,
+    ),
+];
+
+const NOT_WITHIN_TWO: &[&[Turn]] = &[&[BRING, Turn::Take(R4(2, 0, At(2)))]];
+
 #[test]
 fn two_actions_are_too_late_for_two(rt: HostRuntime) -> Result<(), Fail> {
-    let alloc = rt.alloc();
-    expect_sheet(&rt, alloc, &TWO_ACTIONS, &[], &ROOT, false)?;
-    let bring = Turn::Edit(Bring(1, 1, 1));
-    expect_sheet(&rt, alloc, &TWO_ACTIONS, &[bring], &BROUGHT, false)?;
-    let raise = Turn::Take(R4(2, 0, At(1)));
-    expect_sheet(&rt, alloc, &TWO_ACTIONS, &[bring, raise], &LATE, true)?;
-    let beyond = Turn::Take(R4(2, 0, At(2)));
-    assert!(rt; walked(alloc, &TWO_ACTIONS, &[bring, beyond]).is_none());
+    expect_sheets(&rt, rt.alloc(), WITHIN_TWO)?;
+    expect_refusals(&rt, rt.alloc(), &TWO_ACTIONS, NOT_WITHIN_TWO);
     Ok(())
 }
 
@@ -208,23 +246,24 @@ const EMPTIED: Wanted = (
     &[(0, 1)],
 );
 
+const RAISE: Turn = Turn::Take(R4(1, 1, At(2)));
+
+const FROM_OUTSIDE: &[Case] = &[(
+    &TWO_ACTIONS,
+    &[RAISE, Turn::Take(R10(1, 0, At(1))), Turn::Take(R7(1, 1, 1))],
+    &EMPTIED,
+    true,
+)];
+
+const NOT_FROM_OUTSIDE: &[&[Turn]] = &[
+    &[RAISE, Turn::Take(R10(1, 0, At(2)))],
+    &[RAISE, Turn::Take(R7(1, 1, 1))],
+];
+
 #[test]
 fn two_actions_are_too_late_for_two_from_outside(rt: HostRuntime) -> Result<(), Fail> {
-    let alloc = rt.alloc();
-    let raise = Turn::Take(R4(1, 1, At(2)));
-    let key = Turn::Take(R10(1, 0, At(1)));
-    let drop = Turn::Take(R7(1, 1, 1));
-    expect_sheet(
-        &rt,
-        alloc,
-        &TWO_ACTIONS,
-        &[raise, key, drop],
-        &EMPTIED,
-        true,
-    )?;
-    let beyond = Turn::Take(R10(1, 0, At(2)));
-    assert!(rt; walked(alloc, &TWO_ACTIONS, &[raise, beyond]).is_none());
-    assert!(rt; walked(alloc, &TWO_ACTIONS, &[raise, drop]).is_none());
+    expect_sheets(&rt, rt.alloc(), FROM_OUTSIDE)?;
+    expect_refusals(&rt, rt.alloc(), &TWO_ACTIONS, NOT_FROM_OUTSIDE);
     Ok(())
 }
 
@@ -248,16 +287,11 @@ const LEAF: Wanted = (
     &[(0, 1), (0, 2), (0, 3), (2, 1), (3, 1), (3, 2)],
 );
 
+const WITHIN_THREE: &[Case] = &[(&TWO_ACTIONS_IN_THREE, IN_THREE, &LEAF, false)];
+
 #[test]
 fn two_actions_are_in_time_for_three(rt: HostRuntime) -> Result<(), Fail> {
-    expect_sheet(
-        &rt,
-        rt.alloc(),
-        &TWO_ACTIONS_IN_THREE,
-        IN_THREE,
-        &LEAF,
-        false,
-    )
+    expect_sheets(&rt, rt.alloc(), WITHIN_THREE)
 }
 
 /// An initial goal, which an action may add again, and an action that is too long for the bound.
@@ -277,9 +311,11 @@ const OFFERED: Wanted = (
     &[(0, 1)],
 );
 
+const OFFERS: &[Case] = &[(&GOAL_AT_FIRST, &[], &OFFERED, true)];
+
 #[test]
 fn the_root_offers_the_start_and_live_actions(rt: HostRuntime) -> Result<(), Fail> {
-    expect_sheet(&rt, rt.alloc(), &GOAL_AT_FIRST, &[], &OFFERED, true)
+    expect_sheets(&rt, rt.alloc(), OFFERS)
 }
 
 const BENCH: Wanted = (
@@ -325,11 +361,19 @@ const JOINED: Wanted = (
     ],
 );
 
+const BESIDE: &[Case] = &[
+    (&WORKSHOP, &[], &BENCH, false),
+    (
+        &WORKSHOP,
+        &[Turn::Edit(Edit::Join(3, 0, 4)), Turn::Take(R6(3, 0))],
+        &JOINED,
+        false,
+    ),
+];
+
 #[test]
 fn a_brought_token_is_offered_beside_its_action(rt: HostRuntime) -> Result<(), Fail> {
-    expect_sheet(&rt, rt.alloc(), &WORKSHOP, &[], &BENCH, false)?;
-    let turns = [Turn::Edit(Edit::Join(3, 0, 4)), Turn::Take(R6(3, 0))];
-    expect_sheet(&rt, rt.alloc(), &WORKSHOP, &turns, &JOINED, false)
+    expect_sheets(&rt, rt.alloc(), BESIDE)
 }
 
 const ALL: &[Cand] = &[Tok(0), Out(0), Out(1), Out(2)];
@@ -417,21 +461,21 @@ const THREE: Wanted = (
     ],
 );
 
+const FIRST: Turn = Turn::Edit(Bring(1, 1, 0));
+
+const SECOND: Turn = Turn::Edit(Bring(1, 2, 1));
+
+const THIRD: Turn = Turn::Edit(Bring(2, 0, 0));
+
+const ADDERS: &[Case] = &[
+    (&RESOURCE, &[FIRST], &ONE, false),
+    (&RESOURCE, &[FIRST, SECOND], &TWO, false),
+    (&RESOURCE, &[FIRST, SECOND, THIRD], &THREE, false),
+];
+
 #[test]
 fn a_brought_token_has_each_other_adder(rt: HostRuntime) -> Result<(), Fail> {
-    let first = Turn::Edit(Bring(1, 1, 0));
-    expect_sheet(&rt, rt.alloc(), &RESOURCE, &[first], &ONE, false)?;
-    let second = Turn::Edit(Bring(1, 2, 1));
-    expect_sheet(&rt, rt.alloc(), &RESOURCE, &[first, second], &TWO, false)?;
-    let third = Turn::Edit(Bring(2, 0, 0));
-    expect_sheet(
-        &rt,
-        rt.alloc(),
-        &RESOURCE,
-        &[first, second, third],
-        &THREE,
-        false,
-    )
+    expect_sheets(&rt, rt.alloc(), ADDERS)
 }
 
 const BROUGHT_LATE: Wanted = (
@@ -459,22 +503,23 @@ const KEY_BROUGHT: Wanted = (
     &[(0, 1), (0, 2), (2, 1)],
 );
 
+const FROM_OUTSIDE_INTERVALS: &[Case] = &[
+    (
+        &RESOURCE,
+        &[
+            Turn::Edit(Lo(Out(0), At(1))),
+            Turn::Edit(Hi(Out(0), 3)),
+            Turn::Edit(Lo(Out(2), At(5))),
+            Turn::Edit(Bring(1, 1, 0)),
+        ],
+        &BROUGHT_LATE,
+        false,
+    ),
+    // With nothing to begin with, and the outside actions of the key alone.
+    (&KEY, &[Turn::Edit(Bring(1, 2, 2))], &KEY_BROUGHT, false),
+];
+
 #[test]
 fn a_brought_token_has_the_outside_interval_and_live_adders(rt: HostRuntime) -> Result<(), Fail> {
-    let turns = [
-        Turn::Edit(Lo(Out(0), At(1))),
-        Turn::Edit(Hi(Out(0), 3)),
-        Turn::Edit(Lo(Out(2), At(5))),
-        Turn::Edit(Bring(1, 1, 0)),
-    ];
-    expect_sheet(&rt, rt.alloc(), &RESOURCE, &turns, &BROUGHT_LATE, false)?;
-    // With nothing to begin with, and the outside actions of the key alone.
-    expect_sheet(
-        &rt,
-        rt.alloc(),
-        &KEY,
-        &[Turn::Edit(Bring(1, 2, 2))],
-        &KEY_BROUGHT,
-        false,
-    )
+    expect_sheets(&rt, rt.alloc(), FROM_OUTSIDE_INTERVALS)
 }

@@ -14,7 +14,7 @@ use std::process::Abort;
 use std::test::Fail;
 
 /// A step, with its numbers in the order of a certificate's line.
-#[derive(Clone, Copy, Debug)]
+#[derive(Clone, Copy)]
 pub enum Line {
     R1(u32, u32, Span),
     R2(u32, u32, Span),
@@ -99,20 +99,28 @@ fn legal_twice(task: &Task, tables: &Tables, sheet: &mut Sheet, step: &Step) -> 
     Some((true, legal(task, tables, sheet, step)))
 }
 
-fn judge(
+/// Whether the step is legal after the edits, over the task and the tables of the scene.
+fn judge_over(
     alloc: Global,
     scene: &Scene,
-    edits: &[Edit],
-    more: &[Edit],
+    task: &Task,
+    tables: &Tables,
+    edits: [&[Edit]; 2],
     step: &Step,
-) -> Option<(bool, bool)> {
+) -> Option<(bool, bool)>
+    requires { FitsTask task.now tables.now }
+{
+    let mut sheet = root_of(alloc, task, tables, scene.bound)?;
+    edit_all(task, &mut sheet, scene.edits)?;
+    edit_all(task, &mut sheet, edits[0])?;
+    edit_all(task, &mut sheet, edits[1])?;
+    legal_twice(task, tables, &mut sheet, step)
+}
+
+fn judge(alloc: Global, scene: &Scene, edits: [&[Edit]; 2], step: &Step) -> Option<(bool, bool)> {
     let task = task_of(alloc, scene)?;
     let tables = tables_of(alloc, scene, &task)?;
-    let mut sheet = root_of(alloc, &task, &tables, scene.bound)?;
-    edit_all(&task, &mut sheet, scene.edits)?;
-    edit_all(&task, &mut sheet, edits)?;
-    edit_all(&task, &mut sheet, more)?;
-    legal_twice(&task, &tables, &mut sheet, step)
+    judge_over(alloc, scene, &task, &tables, edits, step)
 }
 
 /// Compares each row with what is answered. A step that was taken changes nothing more, and none is legal at a
@@ -125,9 +133,9 @@ pub fn expect_steps(
 ) -> Result<(), Fail> {
     for row in rows {
         let step = step_of(row.1);
-        let found = judge(alloc, scene, row.0, &[], &step);
+        let found = judge(alloc, scene, [row.0, &[]], &step);
         assert_eq!(rt; found, Some((row.2, false)), "{step:?} after {:?}", row.0);
-        let dead = judge(alloc, scene, row.0, DEAD, &step);
+        let dead = judge(alloc, scene, [row.0, DEAD], &step);
         assert_eq!(rt; dead, Some((false, false)), "{step:?} when dead");
     }
     Ok(())
