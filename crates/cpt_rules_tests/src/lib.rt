@@ -3,3 +3,9 @@
 
 #[cfg(test)]
 mod chains;
+#[cfg(test)]
+mod proposals;
+#[cfg(test)]
+mod turns;
+#[cfg(test)]
+mod walks;
