@@ -169,7 +169,8 @@ trait Commanded {
     /// Whether its state, its sheet and its steps are those of the calculus and of an engine that is opened anew.
     fn agrees(&self, alloc: Global) -> Result<bool, Fail>;
 
-    /// A random command: one in sixteen is a reopening and four are retractions, as are all where the engine is dead.
+    /// A random command: one in sixteen is a reopening, as is each where the engine is dead without a decision, and four are
+    /// retractions, as is each where it is dead by one.
     fn choose(&self, least: u64, random: &mut Pcg32) -> Command;
 }
 
@@ -189,10 +190,11 @@ impl<'a, R: Rule + Copy> Commanded for Engine<'a, R> {
 
     fn choose(&self, least: u64, random: &mut Pcg32) -> Command {
         let word = random.next_word() % 16;
-        if word == 0 {
+        let is_dead = self.state() == State::Dead;
+        if word == 0 || (is_dead && self.decisions().is_empty()) {
             return Command::Reopen(least.saturating_add((random.next_word() % 6) as u64));
         }
-        if word < 5 || self.state() == State::Dead {
+        if word < 5 || is_dead {
             return Command::Retract;
         }
         some_deciding(&self.ctx(), self.store(), random)
@@ -251,7 +253,7 @@ fn agrees(alloc: Global, text: &str, least: u64, count: u32) -> Result<bool, Fai
 
 #[test]
 fn a_shared_resource(rt: HostRuntime) -> Result<(), Fail> {
-    assert!(rt; agrees(rt.alloc(), RESOURCE, 5, 80)?);
+    assert!(rt; agrees(rt.alloc(), RESOURCE, 5, 200)?);
     Ok(())
 }
 
@@ -263,12 +265,12 @@ fn a_key_that_is_used_up(rt: HostRuntime) -> Result<(), Fail> {
 
 #[test]
 fn two_trucks(rt: HostRuntime) -> Result<(), Fail> {
-    assert!(rt; agrees(rt.alloc(), TRUCKS, 6, 30)?);
+    assert!(rt; agrees(rt.alloc(), TRUCKS, 8, 200)?);
     Ok(())
 }
 
 #[test]
 fn a_satellite(rt: HostRuntime) -> Result<(), Fail> {
-    assert!(rt; agrees(rt.alloc(), SATELLITE, 30, 100)?);
+    assert!(rt; agrees(rt.alloc(), SATELLITE, 30, 200)?);
     Ok(())
 }
