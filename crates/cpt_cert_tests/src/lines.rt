@@ -1,39 +1,55 @@
 //! Lines with what they are read as, and texts in pieces.
 
 use cpt_cert::{CertLine, Lines, Run, read_line};
-use cpt_task::Span;
+use cpt_task::{Memory, Span};
+use std::alloc::{AllocError, Global};
+use std::process::Abort;
 use std::test::Fail;
 
-#[test]
-fn a_text_comes_in_pieces(rt: HostRuntime) -> Result<(), Fail> {
-    let mut lines = Lines::new(rt.alloc())?;
+/// Whether the line is shown so; "None" for no line.
+fn is_shown(alloc: Global, line: &Option<CertLine>, shown: &str) -> Result<bool, AllocError> {
+    let text = format!(in alloc; "{line:?}")?;
+    Ok(text.as_str() == shown)
+}
+
+/// A piece, how many of its bytes are taken, which line ends in it, and whether bytes stand behind the last line end.
+type Piece = (&'static [u8], usize, &'static str, bool);
+
+const PIECES: &[Piece] = &[
+    (b"cl", 2, "None", true),
+    (b"ose\nen", 4, "Some(Node(Close))", false),
+    (b"en", 2, "None", true),
+    (b"d\n\n", 2, "Some(End)", false),
+    (b"\n", 1, "Some(Strange)", false),
+];
+
+/// Whether the piece is taken so.
+fn takes(alloc: Global, lines: &mut Lines, piece: &Piece) -> Result<bool, Memory> {
+    let (taken, line) = lines.feed(piece.0)?;
+    let is_so = taken == piece.1 && lines.unfinished() == piece.3;
+    Ok(is_so && is_shown(alloc, &line, piece.2)?)
+}
+
+fn expect_pieces(rt: &impl Abort, alloc: Global, pieces: &[Piece]) -> Result<(), Fail> {
+    let mut lines = Lines::new(alloc)?;
     assert!(rt; !lines.unfinished());
-    let (taken, line) = lines.feed(b"cl")?;
-    assert_eq!(rt; taken, 2);
-    assert!(rt; line.is_none());
-    assert!(rt; lines.unfinished());
-    let (taken, line) = lines.feed(b"ose\nen")?;
-    assert_eq!(rt; taken, 4);
-    let text = format!(in rt.alloc(); "{line:?}")?;
-    assert_eq!(rt; text.as_str(), "Some(Node(Close))");
-    assert!(rt; !lines.unfinished());
-    let (taken, line) = lines.feed(b"en")?;
-    assert_eq!(rt; taken, 2);
-    assert!(rt; line.is_none());
-    assert!(rt; lines.unfinished());
-    let (taken, line) = lines.feed(b"d\n\n")?;
-    assert_eq!(rt; taken, 2);
-    let text = format!(in rt.alloc(); "{line:?}")?;
-    assert_eq!(rt; text.as_str(), "Some(End)");
-    let (taken, line) = lines.feed(b"\n")?;
-    assert_eq!(rt; taken, 1);
-    let text = format!(in rt.alloc(); "{line:?}")?;
-    assert_eq!(rt; text.as_str(), "Some(Strange)");
+    for (number, piece) in pieces.iter().enumerate() {
+        let is_so = takes(alloc, &mut lines, piece)?;
+        assert!(rt; is_so, "piece {number}");
+    }
     Ok(())
 }
 
-/// Lines of each form, and what they are read as.
-const READ: [(&str, &str); 42] = [
+#[test]
+fn a_text_comes_in_pieces(rt: HostRuntime) -> Result<(), Fail> {
+    expect_pieces(&rt, rt.alloc(), PIECES)
+}
+
+/// A line, and what it is read as.
+type Read = (&'static str, &'static str);
+
+/// Lines of each form.
+const READ: &[Read] = &[
     ("cpt 1", "First(One)"),
     ("cpt 2", "First(Two)"),
     ("claim optimal 0", "Claimed(Optimal(0))"),
@@ -147,18 +163,28 @@ const READ: [(&str, &str); 42] = [
     ("d", "DistRow(List { items: [] })"),
 ];
 
-#[test]
-fn lines_are_read(rt: HostRuntime) -> Result<(), Fail> {
-    for (text, read) in READ {
-        let line = read_line(rt.alloc(), text.as_bytes())?;
-        let shown = format!(in rt.alloc(); "{line:?}")?;
-        assert_eq!(rt; shown.as_str(), read);
+/// Whether the line is read so.
+fn is_read_so(alloc: Global, read: &Read) -> Result<bool, Memory> {
+    let line = read_line(alloc, read.0.as_bytes())?;
+    let shown = format!(in alloc; "{line:?}")?;
+    Ok(shown.as_str() == read.1)
+}
+
+fn expect_read(rt: &impl Abort, alloc: Global, lines: &[Read]) -> Result<(), Fail> {
+    for read in lines {
+        let is_so = is_read_so(alloc, read)?;
+        assert!(rt; is_so, "{}", read.0);
     }
     Ok(())
 }
 
+#[test]
+fn lines_are_read(rt: HostRuntime) -> Result<(), Fail> {
+    expect_read(&rt, rt.alloc(), READ)
+}
+
 /// Lines of no form.
-const STRANGE: [&str; 44] = [
+const STRANGE: &[&str] = &[
     "",
     " ",
     "close ",
@@ -205,82 +231,157 @@ const STRANGE: [&str; 44] = [
     "h ",
 ];
 
-#[test]
-fn lines_of_no_form_are_strange(rt: HostRuntime) -> Result<(), Fail> {
-    for text in STRANGE {
-        let line = read_line(rt.alloc(), text.as_bytes())?;
-        assert!(rt; matches!(&line, CertLine::Strange), "{text}");
+fn is_strange(alloc: Global, text: &str) -> Result<bool, Memory> {
+    let line = read_line(alloc, text.as_bytes())?;
+    Ok(matches!(&line, CertLine::Strange))
+}
+
+fn expect_strange(rt: &impl Abort, alloc: Global, texts: &[&str]) -> Result<(), Fail> {
+    for text in texts {
+        let is_so = is_strange(alloc, text)?;
+        assert!(rt; is_so, "{text}");
     }
     Ok(())
 }
 
-fn run(value: Span, count: u32) -> Run {
-    Run { value, count }
+#[test]
+fn lines_of_no_form_are_strange(rt: HostRuntime) -> Result<(), Fail> {
+    expect_strange(&rt, rt.alloc(), STRANGE)
+}
+
+const PAIR_ROW: &[Run] = &[
+    Run {
+        value: Span::At(1),
+        count: 1,
+    },
+    Run {
+        value: Span::At(4),
+        count: 1,
+    },
+    Run {
+        value: Span::At(4),
+        count: 1,
+    },
+    Run {
+        value: Span::Never,
+        count: 1,
+    },
+];
+
+const DIST_ROW: &[Run] = &[
+    Run {
+        value: Span::At(0),
+        count: 2,
+    },
+    Run {
+        value: Span::Never,
+        count: 2048,
+    },
+    Run {
+        value: Span::At(999_999_999_999_999),
+        count: 1,
+    },
+];
+
+/// Rows of no form.
+const STRANGE_ROWS: &[&str] = &[
+    "h 1*2 4 4",
+    "h 4 4 1*2",
+    "h 1000000000000000",
+    "h 1*02",
+    "h 1*",
+    "h *2",
+    "h 1*2*2",
+    "h 01",
+];
+
+fn is_pair_row(alloc: Global, text: &str, runs: &[Run]) -> Result<bool, Memory> {
+    let line = read_line(alloc, text.as_bytes())?;
+    match &line {
+        CertLine::PairRow(row) => Ok(row.as_slice() == runs),
+        _ => Ok(false),
+    }
+}
+
+fn is_dist_row(alloc: Global, text: &str, runs: &[Run]) -> Result<bool, Memory> {
+    let line = read_line(alloc, text.as_bytes())?;
+    match &line {
+        CertLine::DistRow(row) => Ok(row.as_slice() == runs),
+        _ => Ok(false),
+    }
+}
+
+fn are_rows_read(alloc: Global) -> Result<bool, Memory> {
+    let is_read = is_pair_row(alloc, "h 1 4 4 never", PAIR_ROW)?;
+    Ok(is_read && is_dist_row(alloc, "d 0*2 never*2048 999999999999999", DIST_ROW)?)
 }
 
 #[test]
 fn rows_are_read(rt: HostRuntime) -> Result<(), Fail> {
-    let line = read_line(rt.alloc(), b"h 1 4 4 never")?;
-    let CertLine::PairRow(runs) = &line else {
-        return Err(Fail::from(cpt_task::Memory));
-    };
-    let alone = [
-        run(Span::At(1), 1),
-        run(Span::At(4), 1),
-        run(Span::At(4), 1),
-        run(Span::Never, 1),
-    ];
-    assert_eq!(rt; runs.as_slice(), alone.as_slice());
-    let line = read_line(rt.alloc(), b"d 0*2 never*2048 999999999999999")?;
-    let CertLine::DistRow(runs) = &line else {
-        return Err(Fail::from(cpt_task::Memory));
-    };
-    let many = [
-        run(Span::At(0), 2),
-        run(Span::Never, 2048),
-        run(Span::At(999_999_999_999_999), 1),
-    ];
-    assert_eq!(rt; runs.as_slice(), many.as_slice());
-    for text in [
-        "h 1*2 4 4",
-        "h 4 4 1*2",
-        "h 1000000000000000",
-        "h 1*02",
-        "h 1*",
-        "h *2",
-        "h 1*2*2",
-        "h 01",
-    ] {
-        let line = read_line(rt.alloc(), text.as_bytes())?;
-        assert!(rt; matches!(&line, CertLine::Strange), "{text}");
-    }
+    let is_so = are_rows_read(rt.alloc())?;
+    assert!(rt; is_so);
     Ok(())
 }
 
 #[test]
-fn long_lines_are_strange(rt: HostRuntime) -> Result<(), Fail> {
-    let mut text = Vec::new(rt.alloc());
+fn rows_of_no_form_are_strange(rt: HostRuntime) -> Result<(), Fail> {
+    expect_strange(&rt, rt.alloc(), STRANGE_ROWS)
+}
+
+/// A row of 32,767 numbers, of 65,536 bytes.
+fn longest_row(alloc: Global) -> Result<Vec<u8>, AllocError> {
+    let mut text = Vec::new(alloc);
     text.push(b'h')?;
     for _ in 0..32_767 {
         text.extend_from_slice(b" 1")?;
     }
-    text.extend_from_slice(b"1")?;
-    let mut lines = Lines::new(rt.alloc())?;
-    lines.feed(&text)?;
+    text.push(b'1')?;
+    Ok(text)
+}
+
+/// Whether the longest line that has a form is read.
+fn reads_row(lines: &mut Lines, row: &[u8]) -> Result<bool, Memory> {
+    lines.feed(row)?;
     let (taken, line) = lines.feed(b"\n")?;
-    assert_eq!(rt; taken, 1);
-    assert!(rt; matches!(&line, Some(CertLine::PairRow(_))));
-    lines.feed(&text)?;
-    let (taken, line) = lines.feed(b"1\n1 2\n")?;
-    assert_eq!(rt; taken, 2);
-    assert!(rt; matches!(&line, Some(CertLine::Strange)));
-    lines.feed(&text)?;
-    lines.feed(&text)?;
-    let (taken, line) = lines.feed(b"\n1 2\n")?;
-    assert_eq!(rt; taken, 1);
-    assert!(rt; matches!(&line, Some(CertLine::Strange)));
+    Ok(taken == 1 && matches!(&line, Some(CertLine::PairRow(_))))
+}
+
+/// Whether the row is strange with this end behind it, of which so many bytes are taken.
+fn is_too_long(lines: &mut Lines, row: &[u8], end: &[u8], due: usize) -> Result<bool, Memory> {
+    lines.feed(row)?;
+    let (taken, line) = lines.feed(end)?;
+    Ok(taken == due && matches!(&line, Some(CertLine::Strange)))
+}
+
+/// Whether the row is strange that is twice as long.
+fn is_far_too_long(lines: &mut Lines, row: &[u8]) -> Result<bool, Memory> {
+    lines.feed(row)?;
+    is_too_long(lines, row, b"\n1 2\n", 1)
+}
+
+/// Whether the next line is an item of a plan.
+fn reads_item(lines: &mut Lines) -> Result<bool, Memory> {
     let (taken, line) = lines.feed(b"1 2\n")?;
-    assert_eq!(rt; taken, 4);
-    assert!(rt; matches!(&line, Some(CertLine::Item { start: 1, act: 2 })));
+    Ok(taken == 4 && matches!(&line, Some(CertLine::Item { start: 1, act: 2 })))
+}
+
+/// Whether the longest row is read, longer ones are strange, and so is no line behind them.
+fn is_cut_there(lines: &mut Lines, row: &[u8]) -> Result<bool, Memory> {
+    let is_read = reads_row(lines, row)?;
+    let is_strange = is_too_long(lines, row, b"1\n1 2\n", 2)?;
+    let is_far = is_far_too_long(lines, row)?;
+    Ok(is_read && is_strange && is_far && reads_item(lines)?)
+}
+
+fn are_long_lines_strange(alloc: Global) -> Result<bool, Memory> {
+    let row = longest_row(alloc)?;
+    let mut lines = Lines::new(alloc)?;
+    is_cut_there(&mut lines, row.as_slice())
+}
+
+#[test]
+fn long_lines_are_strange(rt: HostRuntime) -> Result<(), Fail> {
+    let is_so = are_long_lines_strange(rt.alloc())?;
+    assert!(rt; is_so);
     Ok(())
 }

@@ -13,6 +13,7 @@ use cpt_tables::{DistTable, PairTable, Tables};
 use cpt_task::{List, Span, Task};
 use cpt_task_text::read_task;
 use std::alloc::Global;
+use std::process::Abort;
 use std::test::Fail;
 
 /// A key that one action makes and two others use up.
@@ -126,19 +127,92 @@ fn refutation<'a>(task: &Task, tables: &'a Tables, tree: &'a Tree) -> Cert<'a>
     }
 }
 
-// What is written where these puts fail, whether it was all, and the length of the text.
-fn printed(alloc: Global, version: Version, fail: &[u64]) -> Option<(MemSink, bool, u64)> {
-    let task = task_of(alloc, KEY_TASK)?;
-    let tables = key_tables(alloc, &task)?;
-    let tree = closed_tree(alloc)?;
-    let cert = refutation(&task, &tables, &tree);
-    let mut out = MemSink::new(alloc, 4096, Vec::from_slice(alloc, fail).ok()?).ok()?;
-    let length = cert_len(&task, &cert, version);
-    let done = print_cert(alloc, &task, &cert, version, &mut out).is_ok();
-    Some((out, done, length))
+/// A version, the puts that fail, whether the whole text is put, and what is written.
+#[derive(Drop)]
+struct Put<'a> {
+    version: Version,
+    fail: &'a [u64],
+    is_whole: bool,
+    text: &'a str,
 }
 
-const ONE: [&str; 14] = [
+/// Whether the whole certificate is put.
+fn puts(alloc: Global, task: &Task, cert: &Cert, version: Version, out: &mut MemSink) -> bool
+    requires whole { IsWhole task.now cert.now }
+    requires faults { ⟦<MemSink as Sink>⟧.faults out.old ≡ 0 }
+{
+    print_cert(alloc, task, cert, version, out).is_ok()
+}
+
+/// Whether the certificate has this length.
+fn has_length(task: &Task, cert: &Cert, version: Version, length: usize) -> bool
+    requires whole { IsWhole task.now cert.now }
+{
+    cert_len(task, cert, version) == length as u64
+}
+
+fn sink(alloc: Global, fail: &[u64]) -> Option<MemSink>
+    ensures { IfSome result (λ out. ⟦<MemSink as Sink>⟧.faults out ≡ 0) }
+{
+    MemSink::new(alloc, 4096, Vec::from_slice(alloc, fail).ok()?).ok()
+}
+
+/// Whether the certificate is put so, and has the length of the text where that is the whole.
+fn is_put(alloc: Global, task: &Task, cert: &Cert, put: &Put) -> Option<bool>
+    requires whole { IsWhole task.now cert.now }
+{
+    let mut out = sink(alloc, put.fail)?;
+    let is_whole = puts(alloc, task, cert, put.version, &mut out);
+    let is_so = is_whole == put.is_whole && out.written() == put.text.as_bytes();
+    Some(is_so && (!is_whole || has_length(task, cert, put.version, put.text.len())))
+}
+
+/// Whether the refutation by these tables is put so.
+fn is_refutation_put(alloc: Global, task: &Task, tables: &Tables, put: &Put) -> Option<bool>
+    requires fits { FitsTask task.now tables.now }
+{
+    let tree = closed_tree(alloc)?;
+    is_put(alloc, task, &refutation(task, tables, &tree), put)
+}
+
+/// Whether the refutation is put so.
+fn is_printed(alloc: Global, put: &Put) -> Option<bool> {
+    let task = task_of(alloc, KEY_TASK)?;
+    let tables = key_tables(alloc, &task)?;
+    is_refutation_put(alloc, &task, &tables, put)
+}
+
+/// Whether the whole text is put, with these puts failing.
+fn expect_whole(
+    rt: &impl Abort,
+    alloc: Global,
+    version: Version,
+    fail: &[u64],
+    text: &str,
+) -> Result<(), Fail> {
+    let put = Put {
+        version,
+        fail,
+        is_whole: true,
+        text,
+    };
+    assert!(rt; is_printed(alloc, &put) == Some(true));
+    Ok(())
+}
+
+/// Where the put of this number fails, this text is written in the first version, and no more.
+fn expect_front(rt: &impl Abort, alloc: Global, number: usize, text: &str) -> Result<(), Fail> {
+    let put = Put {
+        version: Version::One,
+        fail: &[number as u64],
+        is_whole: false,
+        text,
+    };
+    assert!(rt; is_printed(alloc, &put) == Some(true), "put {number}");
+    Ok(())
+}
+
+const ONE: &[&str] = &[
     "cpt 1\n",
     "claim none-up-to 5\n",
     "task 3 3\n",
@@ -160,31 +234,20 @@ const TWO: &str =
 
 #[test]
 fn a_certificate_has_a_text_in_each_version(rt: HostRuntime) -> Result<(), Fail> {
-    let Some((out, done, length)) = printed(rt.alloc(), Version::Two, &[]) else {
-        return Err("memory")?;
-    };
-    assert!(rt; done);
-    assert_eq!(rt; out.written(), TWO.as_bytes());
-    assert_eq!(rt; length, TWO.len() as u64);
-    Ok(())
+    expect_whole(&rt, rt.alloc(), Version::Two, &[], TWO)
+}
+
+/// The put of each line fails in turn, and none behind them is made.
+fn expect_lines(rt: &impl Abort, alloc: Global, lines: &[&str]) -> Result<(), Fail> {
+    let mut before = String::new(alloc);
+    for (number, line) in lines.iter().enumerate() {
+        expect_front(rt, alloc, number, before.as_str())?;
+        before.push_str(line)?;
+    }
+    expect_whole(rt, alloc, Version::One, &[14], before.as_str())
 }
 
 #[test]
 fn a_line_is_put_in_one_call(rt: HostRuntime) -> Result<(), Fail> {
-    let mut before = String::new(rt.alloc());
-    for (number, line) in ONE.iter().enumerate() {
-        let Some((out, done, _)) = printed(rt.alloc(), Version::One, &[number as u64]) else {
-            return Err("memory")?;
-        };
-        assert!(rt; !done, "put {number}");
-        assert_eq!(rt; out.written(), before.as_bytes(), "put {number}");
-        before.push_str(line)?;
-    }
-    let Some((out, done, length)) = printed(rt.alloc(), Version::One, &[14]) else {
-        return Err("memory")?;
-    };
-    assert!(rt; done);
-    assert_eq!(rt; out.written(), before.as_bytes());
-    assert_eq!(rt; length, before.len() as u64);
-    Ok(())
+    expect_lines(&rt, rt.alloc(), ONE)
 }
