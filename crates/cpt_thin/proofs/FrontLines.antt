@@ -20,6 +20,9 @@ use Rattle.cpt_sections.specs.declared.section.Stage.TheVariants as stages
 use Rattle.cpt_sections.specs.Stages.{LeftOf, IsStage, HasFewAt, Advances}
 use Rattle.cpt_sections.proofs.StageLines.{more_few_at}
 use Rattle.cpt_thin.specs.declared.fronts.Front.{Front}
+use Rattle.cpt_thin.specs.declared.fates.Fate.{Fate}
+use Rattle.cpt_thin.specs.declared.fates.Fate.TheVariants.{Fixed, Kept, Dropped}
+use Rattle.cpt_thin.specs.Dooms.{line_left}
 use Rattle.cpt_thin.specs.Fronts.{IsFrontOf}
 
 pub one_bring : (l : NodeLine) → bring_of l ≤ 1
@@ -72,3 +75,9 @@ read_more bodies i e ls l lt h k =
     let size = length-map bodies now in
     let more : take (i + 1) (map now bodies) ≡ take i (map now bodies) ++ (get_or bodies i e).now ∷ [] = take_more (map now bodies) i e.now (omega (arith, lt, size)) ∙ ap (λ z. take i (map now bodies) ++ z ∷ []) (get_or-map now bodies i e e.now lt) in
     subst (λ z. AllZip IsReadAs z (ls ++ l ∷ [])) (sym more) (read_push (take i (map now bodies)) ls (get_or bodies i e).now l h k)
+
+-- a line is one line, or none where it is dropped
+pub few_left : (read : List CertLine) (f : Fate) (l : CertLine) → length (read ++ line_left f l) ≤ length read + 1
+few_left read Fixed l = let size = length-append read (l ∷ []) in omega (arith, size)
+few_left read Kept l = let size = length-append read (l ∷ []) in omega (arith, size)
+few_left read Dropped l = let size = length-append read [] in omega (arith, size)

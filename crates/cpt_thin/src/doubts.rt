@@ -76,7 +76,7 @@ pub fn meet(
 }
 
 /// Whether a fault stands in the lines that are left from the place on, before the tree is read.
-pub(crate) fn is_doomed(
+fn is_doomed(
     alloc: Global,
     task: &Task,
     tables: &Tables,

@@ -27,3 +27,11 @@ pub fn is_kept_at(fates: &[Fate], place: usize) -> bool
 {
     matches!(fates.get(place), Some(Fate::Kept))
 }
+
+/// What becomes of the line at the place. What is no line stays.
+pub(crate) fn fate_at(fates: &[Fate], place: usize) -> Fate {
+    match fates.get(place) {
+        Some(fate) => *fate,
+        None => Fate::Fixed,
+    }
+}

@@ -5,7 +5,9 @@
 mod doubts;
 mod fates;
 mod fronts;
+mod rests;
 mod thinning;
+mod values;
 
 pub use doubts::is_doomed_at;
 pub use fates::{Fate, is_dropped, is_kept_at};

@@ -1,5 +1,7 @@
 //! Step lines that are dropped node by node.
 //!
+//! Those are dropped first on which nothing rests, so that few are left to be tried that are not needed.
+//!
 //! Whether a step of a node is needed is seen over the lines of that node and of what stands below it, read alone over
 //! the node's sheet: what comes behind them is read from where it was read before. It is no law that a line that is
 //! dropped is not needed: the text that is left is to be read whole.
@@ -12,9 +14,10 @@ ghost use Rattle.cpt_sections.specs.Sections.{IsLine};
 ghost use Rattle.cpt_thin.specs.Dooms.{IsGoing};
 ghost use Rattle.cpt_thin.specs.Thinner.{IsBegun, IsSomeFront, IsThinner, AreBegun, Thins};
 
-use crate::doubts::is_doomed;
-use crate::fates::{Fate, is_kept_at};
+use crate::doubts::{Met, meet};
+use crate::fates::{Fate, fate_at, is_kept_at};
 use crate::fronts::{Front, begin_front, pass_line};
+use crate::rests::resting;
 use cpt_cert_read::CertLine;
 use cpt_edits::copy_sheet;
 use cpt_sections::{Section, Stage};
@@ -42,8 +45,37 @@ fn walk_from(alloc: Global, sheet: &Sheet, may_open: bool) -> Result<Walk, Memor
     Ok(begin_tree(alloc, copy, may_open))
 }
 
-/// Drops the line at the place, where it is a step line that is kept and the lines that are left are those of the node
-/// without it.
+/// Whether the lines that are left from the place to the last one are those of a node.
+fn is_node(
+    alloc: Global,
+    task: &Task,
+    tables: &Tables,
+    start: Walk,
+    fates: &[Fate],
+    lines: &[CertLine],
+    place: usize,
+    last: usize,
+) -> Result<bool, Memory>
+    requires tables { FitsTask task.now tables.now }
+    requires going { IsGoing task.now place start }
+    requires place { place ≤ length lines.now }
+    requires each { length fates.now ≡ length lines.now }
+    requires size { length lines.now ≤ 16777216 }
+{
+    let mut walk = start;
+    for at in place..lines.len() {
+        match meet(alloc, task, tables, walk, fates[at], &lines[at])? {
+            Met::On(next) => walk = next,
+            Met::Read => return Ok(at == last),
+            Met::Fault => return Ok(false),
+            Met::Other => return Ok(false),
+        }
+    }
+    Ok(false)
+}
+
+/// Drops the line at the place, where it is a step line that is kept and the lines that are left to the last one are
+/// those of the node without it.
 fn thin_place(
     alloc: Global,
     task: &Task,
@@ -53,6 +85,7 @@ fn thin_place(
     fates: &mut [Fate],
     lines: &[CertLine],
     place: usize,
+    last: usize,
 ) -> Result<(), Memory>
     requires tables { FitsTask task.now tables.now }
     requires sheet { IsBegun task.now node.now.place node.now.sheet }
@@ -67,7 +100,7 @@ fn thin_place(
     }
     fates[place] = Fate::Dropped;
     let start = walk_from(alloc, &node.sheet, may_open)?;
-    if is_doomed(alloc, task, tables, start, fates, lines, node.place)? {
+    if !is_node(alloc, task, tables, start, fates, lines, node.place, last)? {
         fates[place] = Fate::Kept;
     }
     Ok(())
@@ -89,7 +122,7 @@ fn steps_end(fates: &[Fate], place: usize) -> usize
     fates.len()
 }
 
-/// Drops step lines of a node of which no line is left.
+/// Drops step lines of a node that ends with the last line.
 fn thin_node(
     alloc: Global,
     task: &Task,
@@ -98,6 +131,7 @@ fn thin_node(
     node: &Begun,
     fates: &mut [Fate],
     lines: &[CertLine],
+    last: usize,
 ) -> Result<(), Memory>
     requires tables { FitsTask task.now tables.now }
     requires sheet { IsBegun task.now node.now.place node.now.sheet }
@@ -108,7 +142,7 @@ fn thin_node(
     let mut at = steps_end(fates, node.place);
     while at > node.place {
         at -= 1;
-        thin_place(alloc, task, tables, may_open, node, fates, lines, at)?;
+        thin_place(alloc, task, tables, may_open, node, fates, lines, at, last)?;
     }
     Ok(())
 }
@@ -121,7 +155,7 @@ fn is_last_done(nodes: &[Begun], depth: usize) -> bool {
     }
 }
 
-/// Drops step lines of the nodes of which no line is left, where so many branches have children left.
+/// Drops step lines of the nodes that end with the last line, where so many branches have children left.
 fn thin_done(
     alloc: Global,
     task: &Task,
@@ -131,6 +165,7 @@ fn thin_done(
     depth: usize,
     fates: &mut [Fate],
     lines: &[CertLine],
+    last: usize,
 ) -> Result<(), Memory>
     requires tables { FitsTask task.now tables.now }
     requires nodes { AreBegun task.now nodes.old.items }
@@ -143,7 +178,7 @@ fn thin_done(
         let Some(node) = nodes.pop() else {
             return Ok(());
         };
-        thin_node(alloc, task, tables, may_open, &node, fates, lines)?;
+        thin_node(alloc, task, tables, may_open, &node, fates, lines, last)?;
     }
     Ok(())
 }
@@ -206,6 +241,7 @@ fn thin_walk(
         depth,
         fates,
         lines,
+        place,
     )
 }
 
@@ -264,7 +300,7 @@ fn thin_all(
     let mut nodes: Vec<Begun> = Vec::new(alloc);
     for place in 0..lines.len() {
         thin_at(alloc, task, &front, &mut nodes, fates, lines, place)?;
-        front = pass_line(alloc, task, front, Fate::Kept, &lines[place])?;
+        front = pass_line(alloc, task, front, fate_at(fates, place), &lines[place])?;
     }
     Ok(())
 }
@@ -293,7 +329,7 @@ pub fn thin(
     requires actions { length task.now.actions ≤ 4096 }
     ensures { IfOk result (λ thinner. IsThinner fates.now thinner.items) }
 {
-    let mut found = Vec::from_slice(alloc, fates)?;
+    let mut found = resting(alloc, task, fates, lines)?;
     thin_all(alloc, task, &mut found, lines)?;
     let mut thinner = Vec::new(alloc);
     for (place, fate) in fates.iter().enumerate() {

@@ -2,9 +2,11 @@
 //!
 //! A text that is no certificate is refused with its first fault. Of a certificate step lines are dropped in two ways.
 //!
-//! First node by node, once. When the last line below a node is read, the steps of the node are tried from the last to
-//! the first: a step is dropped where the lines that are left from the node's first to its last are those of a node
-//! over its sheet. The text that is left is then read whole, and it is taken only where it is a certificate.
+//! First many at once. Those step lines are kept on which a line that closes or branches a node rests, or a step line that
+//! is kept: the last on the way to it that changed what it needs. Then, when the last line below a node is read, the steps
+//! of the node that are kept are tried from the last to the first: a step is dropped where the lines that are left from
+//! the node's first to its last are those of a node over its sheet. The text that is left is then read whole, and it is
+//! taken only where it is a certificate.
 //!
 //! Then line by line, until no line was dropped. A line is needed where a fault comes when the lines behind it are read
 //! on without it, before its node is read to its end: then the whole text has that fault. Only where none comes is the

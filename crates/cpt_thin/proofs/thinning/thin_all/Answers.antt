@@ -1,6 +1,8 @@
-use Rattle.std.proofs.Common.{◌∙◌, [], ◌∷◌, ◌++◌, arith, length-append, subst, sym}
+use Rattle.std.proofs.Common.{◌∙◌, [], ◌++◌, arith, subst, sym}
 use Rattle.std.proofs.lemmas.List.Elements.{All-nil}
+use Rattle.cpt_thin.specs.Dooms.{line_left}
 use Rattle.cpt_thin.specs.Thinner.{IsBegun, AreBegun}
+use Rattle.cpt_thin.proofs.FrontLines.{few_left}
 use Rattle.cpt_thin.proofs.thinning.thin_all.Goals as goal
 
 pub loop-place-init : goal.loop-place-init
@@ -17,9 +19,9 @@ pub loop-place-preserved : goal.loop-place-preserved
 loop-place-preserved c =
     let front = c.loop-place.invariant.front in
     let le = front.1 in
-    let size = length-append front.0 (c.index-lines-place.result ∷ []) in
+    let size = few_left front.0 c.fate_at.result c.index-lines-place.result in
     record {
       each = c.in_ok-thin_at.ensures.each ∙ c.loop-place.invariant.each;
       nodes = c.in_ok-thin_at.ensures.nodes;
-      front = (front.0 ++ c.index-lines-place.result ∷ [], omega (arith, le, size), c.in_ok-front.ensures front.0 front.2);
+      front = (front.0 ++ line_left c.fate_at.result c.index-lines-place.result, omega (arith, le, size), c.in_ok-front.ensures front.0 front.2);
     }
