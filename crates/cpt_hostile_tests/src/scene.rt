@@ -1,10 +1,11 @@
 //! Calls of the program over the files in memory.
 
-ghost use Rattle.std.specs.Prelude.{◌≡◌, IfOk};
+ghost use Rattle.std.specs.Prelude.{◌≡◌, ◌<◌, ◌-◌, ◌^◌, IfOk};
 
 use crate::texts::FILES;
 use cpt_io::{Library, MemLibrary, MemSink, Sink};
 use cpt_task::{List, Name};
+use cpt_top::run;
 use std::alloc::{AllocError, Global};
 use std::test::Fail;
 
@@ -61,4 +62,26 @@ pub fn output(alloc: Global, room: usize, fail: &[u64]) -> Result<MemSink, Fail>
         Ok(sink) => Ok(sink),
         Err(_) => Err("memory")?,
     }
+}
+
+/// Runs the program and tells its status alone, so that no test sees its whole contract.
+pub fn status_of<L: Library, K: Sink>(
+    alloc: Global,
+    words: &[String],
+    lib: &mut L,
+    out: &mut K,
+) -> u8
+    requires lib { L.faults lib.old < 2 ^ 64 - 1 }
+    requires out { K.faults out.old < 2 ^ 64 - 1 }
+{
+    run(alloc, words, lib, out)
+}
+
+pub fn is_written(out: &MemSink, text: &str) -> bool {
+    out.written() == text.as_bytes()
+}
+
+/// Whether the text begins with what is written.
+pub fn is_front(out: &MemSink, text: &str) -> bool {
+    text.as_bytes().starts_with(out.written())
 }
