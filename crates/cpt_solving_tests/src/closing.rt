@@ -87,24 +87,40 @@ fn push_token(steps: &mut Vec<Step>, sizes: Sizes, tok: u32, needs: &[Need]) -> 
     Some(())
 }
 
-/// All steps about tokens, lists and outside actions of the sheet, with the value Never.
-fn steps_of(alloc: Global, task: &Task, sheet: &Sheet) -> Option<Vec<Step>> {
-    let mut steps = Vec::new(alloc);
-    let sizes = Sizes {
+fn sizes_of(task: &Task, sheet: &Sheet) -> Option<Sizes> {
+    Some(Sizes {
         tokens: u32::try_from(sheet.tokens.as_slice().len()).ok()?,
         atoms: u32::try_from(task.atoms().len()).ok()?,
         acts: u32::try_from(task.actions().len()).ok()?,
-    };
+    })
+}
+
+/// The steps of the tokens.
+fn push_tokens(steps: &mut Vec<Step>, sizes: Sizes, sheet: &Sheet) -> Option<()> {
     let mut tok = 0;
     for token in sheet.tokens.as_slice() {
-        push_token(&mut steps, sizes, tok, token.lists.as_slice())?;
+        push_token(steps, sizes, tok, token.lists.as_slice())?;
         tok = tok.wrapping_add(1);
     }
+    Some(())
+}
+
+/// The steps of an outside action.
+fn push_outside(steps: &mut Vec<Step>, sizes: Sizes, act: u32) -> Option<()> {
+    let to = Span::Never;
+    for pre in 0..sizes.atoms {
+        steps.push(Step::R10 { act, pre, to }).ok()?;
+    }
+    Some(())
+}
+
+/// All steps about tokens, lists and outside actions of the sheet, with the value Never.
+fn steps_of(alloc: Global, task: &Task, sheet: &Sheet) -> Option<Vec<Step>> {
+    let mut steps = Vec::new(alloc);
+    let sizes = sizes_of(task, sheet)?;
+    push_tokens(&mut steps, sizes, sheet)?;
     for act in 0..sizes.acts {
-        for pre in 0..sizes.atoms {
-            let to = Span::Never;
-            steps.push(Step::R10 { act, pre, to }).ok()?;
-        }
+        push_outside(&mut steps, sizes, act)?;
     }
     Some(steps)
 }

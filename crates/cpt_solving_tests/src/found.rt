@@ -17,7 +17,7 @@ pub enum Ending {
 }
 
 /// How a search ends, with the makespan or the bound that is refuted (0 for none), the plan, and the lines of the tree
-/// and of the partial tree without their steps; and how many nodes are visited, where that is counted.
+/// and of the partial tree without their steps; and how many nodes are visited.
 #[derive(Drop)]
 pub struct Found {
     pub ending: Ending,
@@ -78,8 +78,8 @@ fn spent(alloc: Global, refuted: u64, full: &Tree, partial: &Tree) -> Option<Fou
     })
 }
 
-/// What the outcome says.
-pub fn found_by(alloc: Global, outcome: &Outcome) -> Option<Found> {
+/// What the outcome says, but for the nodes that are visited.
+fn found_of(alloc: Global, outcome: &Outcome) -> Option<Found> {
     match outcome {
         Outcome::Optimal {
             plan,
@@ -96,6 +96,13 @@ pub fn found_by(alloc: Global, outcome: &Outcome) -> Option<Found> {
     }
 }
 
+/// What the outcome says, found with so many nodes visited.
+pub fn found_by(alloc: Global, outcome: &Outcome, visited: u64) -> Option<Found> {
+    let mut found = found_of(alloc, outcome)?;
+    found.visited = visited;
+    Some(found)
+}
+
 /// How many lines close or branch a node.
 pub fn nodes_of(lines: &[NodeLine]) -> u64 {
     let mut count = 0u64;
@@ -107,27 +114,30 @@ pub fn nodes_of(lines: &[NodeLine]) -> u64 {
     count
 }
 
-/// Compares lines.
-pub fn expect_lines(rt: &impl Abort, found: &[NodeLine], wanted: &[NodeLine]) -> Result<(), Fail> {
-    assert!(rt; found == wanted, "other lines");
-    Ok(())
-}
-
-/// Whether both end the same way.
+/// Whether both end the same way, with the same plan.
 fn ends_the_same(found: &Found, wanted: &Found) -> bool {
-    found.ending == wanted.ending && found.number == wanted.number
+    found.ending == wanted.ending
+        && found.number == wanted.number
+        && found.plan.as_slice() == wanted.plan.as_slice()
 }
 
-/// Compares how two searches end, and their plans.
-fn expect_ending(rt: &impl Abort, found: &Found, wanted: &Found) -> Result<(), Fail> {
-    let same = ends_the_same(found, wanted) && found.plan.as_slice() == wanted.plan.as_slice();
-    assert!(rt; same, "another ending");
+fn has_lines(found: &Found, full: &[NodeLine], partial: &[NodeLine]) -> bool {
+    found.full.as_slice() == full && found.partial.as_slice() == partial
+}
+
+/// Compares the lines of both trees.
+pub fn expect_lines(
+    rt: &impl Abort,
+    found: &Found,
+    full: &[NodeLine],
+    partial: &[NodeLine],
+) -> Result<(), Fail> {
+    assert!(rt; has_lines(found, full, partial), "other lines");
     Ok(())
 }
 
 /// Compares what two searches found.
 pub fn expect_same(rt: &impl Abort, found: &Found, wanted: &Found) -> Result<(), Fail> {
-    expect_ending(rt, found, wanted)?;
-    expect_lines(rt, found.full.as_slice(), wanted.full.as_slice())?;
-    expect_lines(rt, found.partial.as_slice(), wanted.partial.as_slice())
+    assert!(rt; ends_the_same(found, wanted), "another ending");
+    expect_lines(rt, found, wanted.full.as_slice(), wanted.partial.as_slice())
 }

@@ -1,6 +1,6 @@
 //! What the search finds for small tasks, worked out by hand.
 
-use crate::found::{Ending, Found, expect_lines, found_by};
+use crate::found::{Ending, Found, expect_lines};
 use crate::solve::{best_tables, solve};
 use crate::tasks::{
     GOAL_AT_FIRST, KEY, NEVER_BOTH, NEVER_READY, NOTHING_ADDS, Numbers, ONE_AFTER_THE_OTHER,
@@ -15,8 +15,7 @@ use std::test::Fail;
 fn found(alloc: Global, numbers: &Numbers, max: u64, nodes: u64) -> Option<Found> {
     let task = task_of(alloc, numbers)?;
     let tables = best_tables(alloc, &task)?;
-    let (outcome, _) = solve(alloc, &task, &tables, max, nodes)?;
-    found_by(alloc, &outcome)
+    solve(alloc, &task, &tables, max, nodes)
 }
 
 /// A task, the greatest bound and the budget of nodes; and how the search ends, with its number and its plan as pairs of
@@ -167,6 +166,5 @@ fn leaves_the_children_of_the_root_open(rt: HostRuntime) -> Result<(), Fail> {
     let Some(found) = found(rt.alloc(), &RESOURCE, 1000, 1) else {
         return Err("no outcome")?;
     };
-    expect_lines(&rt, found.full.as_slice(), &[NodeLine::Close])?;
-    expect_lines(&rt, found.partial.as_slice(), PARTIAL)
+    expect_lines(&rt, &found, &[NodeLine::Close], PARTIAL)
 }

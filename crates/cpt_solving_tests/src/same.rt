@@ -2,7 +2,7 @@
 
 ghost use Rattle.cpt_sheet.specs.Gaps.{FitsTask};
 
-use crate::found::{Found, expect_same, found_by, nodes_of};
+use crate::found::{Found, expect_same, nodes_of};
 use crate::plain::searched;
 use crate::solve::{best_tables, solve};
 use crate::tasks::{
@@ -22,15 +22,14 @@ fn first_moment(task: &Task, tables: &Tables) -> Span
     set_span(&tables.pairs, task.goal())
 }
 
-/// What the search finds, what the recursion finds, and how many calls the search used.
-fn both(alloc: Global, task: &Task, max: u64, nodes: u64) -> Option<(Found, Found, u64)> {
+/// What the search finds, and what the recursion finds.
+fn both(alloc: Global, task: &Task, max: u64, nodes: u64) -> Option<(Found, Found)> {
     let tables = best_tables(alloc, task)?;
     let Span::At(first) = first_moment(task, &tables) else {
         return None;
     };
-    let (outcome, used) = solve(alloc, task, &tables, max, nodes)?;
-    let plain = searched(alloc, task, &tables, first, max, nodes)?;
-    Some((found_by(alloc, &outcome)?, plain, used))
+    let found = solve(alloc, task, &tables, max, nodes)?;
+    Some((found, searched(alloc, task, &tables, first, max, nodes)?))
 }
 
 /// A task, the greatest bound and the budget of nodes; and how many nodes the trees have that come with the outcome.
@@ -66,11 +65,14 @@ fn expect_row(rt: &impl Abort, alloc: Global, place: usize, row: &Row) -> Result
     let Some(task) = task_of(alloc, &row.0) else {
         return Err("no task")?;
     };
-    let Some((found, plain, used)) = both(alloc, &task, row.1, row.2) else {
+    let Some((found, plain)) = both(alloc, &task, row.1, row.2) else {
         return Err("no outcome")?;
     };
     expect_same(rt, &found, &plain)?;
-    assert!(rt; is_row(&found, row) && used <= plain.visited, "row {place}");
+    assert!(rt;
+        is_row(&found, row) && found.visited <= plain.visited,
+        "row {place}"
+    );
     Ok(())
 }
 

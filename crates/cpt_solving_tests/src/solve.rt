@@ -1,19 +1,21 @@
 //! Tasks searched by the engine, over their best tables and with all rules.
 
-ghost use Rattle.std.specs.Prelude.{IfSome, ◌≤◌, length};
+ghost use Rattle.std.specs.Prelude.{IfSome, ◌≡◌, ◌≤◌, length};
+ghost use Rattle.cpt_calculus.specs.Rules.{all_rules};
 ghost use Rattle.cpt_tables.specs.Greatest.{IsBest};
 ghost use Rattle.cpt_sheet.specs.Gaps.{FitsTask};
 
+use crate::found::{Found, found_by};
 use cpt_dist::dist_table;
 use cpt_engine::Engine;
 use cpt_h2::pair_table;
 use cpt_order::OrderRules;
 use cpt_outside::OutsideRules;
-use cpt_search::{Outcome, search};
-use cpt_store::Both;
+use cpt_search::search;
+use cpt_store::{Both, Rule};
 use cpt_support::SupportRules;
 use cpt_tables::Tables;
-use cpt_task::Task;
+use cpt_task::{Memory, Task};
 use cpt_threat::ThreatRules;
 use std::alloc::Global;
 
@@ -41,21 +43,44 @@ pub fn best_tables(alloc: Global, task: &Task) -> Option<Tables>
     Some(Tables { pairs, dists })
 }
 
-/// What the search finds, and how many calls it used.
-pub fn solve(
+/// What the search of the engine finds, with how many calls it used as the nodes visited.
+fn found_in<R: Rule + Copy>(
     alloc: Global,
-    task: &Task,
-    tables: &Tables,
+    engine: &mut Engine<'_, R>,
     max: u64,
     nodes: u64,
-) -> Option<(Outcome, u64)>
-    requires best { IsBest task.now tables.now }
-    requires fits { FitsTask task.now tables.now }
+) -> Option<Found>
+    requires best { IsBest engine.old.task engine.old.tables }
+    requires rules { R.covers ≡ all_rules }
+    requires used { engine.old.used ≡ 0 }
 {
     if max > 1_000_000 || nodes < 1 || nodes > 4_000_000_000 {
         return None;
     }
-    let mut engine = Engine::open(alloc, task, tables, 0, RULES).ok()?;
-    let outcome = search(alloc, &mut engine, max, nodes).ok()?;
-    Some((outcome, engine.used()))
+    let outcome = search(alloc, engine, max, nodes).ok()?;
+    found_by(alloc, &outcome, engine.used())
+}
+
+fn found_with<R: Rule + Copy>(
+    alloc: Global,
+    task: &Task,
+    tables: &Tables,
+    rule: R,
+    max: u64,
+    nodes: u64,
+) -> Result<Option<Found>, Memory>
+    requires best { IsBest task.now tables.now }
+    requires fits { FitsTask task.now tables.now }
+    requires rules { R.covers ≡ all_rules }
+{
+    let mut engine = Engine::open(alloc, task, tables, 0, rule)?;
+    Ok(found_in(alloc, &mut engine, max, nodes))
+}
+
+/// What the search finds, with how many calls it used as the nodes visited.
+pub fn solve(alloc: Global, task: &Task, tables: &Tables, max: u64, nodes: u64) -> Option<Found>
+    requires best { IsBest task.now tables.now }
+    requires fits { FitsTask task.now tables.now }
+{
+    found_with(alloc, task, tables, RULES, max, nodes).ok()?
 }
