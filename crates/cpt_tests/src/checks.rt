@@ -1,21 +1,20 @@
 //! Certificates over domains and problems.
 
 use crate::counting::CountingLibrary;
-use crate::scene::{Case, expect, library, output, words_of};
-use cpt_top::run;
+use crate::scene::{Case, expect, expect_all, is_written, library, output, status_of, words_of};
 use std::alloc::{AllocError, Global};
 use std::process::Abort;
 use std::test::Fail;
 
-pub const CHECK: &[&str] = &["check", "d", "p", "c"];
+const CHECK: &[&str] = &["check", "d", "p", "c"];
 
 /// A key that one action makes and two others use up.
-pub const KEY: &str = "(define (domain key) (:predicates (k) (g1) (g2))
+const KEY: &str = "(define (domain key) (:predicates (k) (g1) (g2))
 (:durative-action u :parameters () :duration (= ?duration 1) :condition () :effect (at end (k)))
 (:durative-action v1 :parameters () :duration (= ?duration 2) :condition (over all (k)) :effect (and (at end (not (k))) (at end (g1))))
 (:durative-action v2 :parameters () :duration (= ?duration 2) :condition (over all (k)) :effect (and (at end (not (k))) (at end (g2)))))";
 
-pub const BOTH: &str = "(define (problem both) (:domain key) (:init) (:goal (and (g1) (g2))))";
+const BOTH: &str = "(define (problem both) (:domain key) (:init) (:goal (and (g1) (g2))))";
 
 /// The plan makes the key twice. Both goals together take 6.
 const OPTIMAL: &[&str] = &[
@@ -184,7 +183,7 @@ const AT_ONCE: &[&str] = &["cpt 1", "claim optimal 0", "task 1 0", "plan 0", "en
 /// The number of a line from 1 on, or 0; the lines that stand in its place; and what is answered.
 type Change = (usize, &'static [&'static str], u8, &'static str);
 
-const OVER_OPTIMAL: [Change; 10] = [
+const OVER_OPTIMAL: &[Change] = &[
     (0, &[], 0, "version 1\naccepted: optimal 6\n"),
     (18, &[], 1, "version 1\nrejected: line 18: grammar\n"),
     (
@@ -212,7 +211,7 @@ const OVER_OPTIMAL: [Change; 10] = [
     (1, &[], 1, "rejected: line 1: grammar\n"),
 ];
 
-const OVER_RUNS: [Change; 4] = [
+const OVER_RUNS: &[Change] = &[
     (0, &[], 0, "version 2\naccepted: optimal 6\n"),
     (
         10,
@@ -230,7 +229,7 @@ const OVER_RUNS: [Change; 4] = [
 ];
 
 /// A plan of makespan 6 is valid, so the bound 6 is not refuted.
-const OVER_REFUTED: [Change; 3] = [
+const OVER_REFUTED: &[Change] = &[
     (0, &[], 0, "version 1\naccepted: no plan up to 5\n"),
     (12, &["tree 6"], 1, "version 1\nrejected: line 12: bound\n"),
     (
@@ -241,7 +240,7 @@ const OVER_REFUTED: [Change; 3] = [
     ),
 ];
 
-const OVER_SPENT: [Change; 10] = [
+const OVER_SPENT: &[Change] = &[
     (0, &[], 0, "version 1\naccepted: refuted 3 nodes 1\n"),
     (
         2,
@@ -279,32 +278,32 @@ const OVER_SPENT: [Change; 10] = [
     (18, &[], 1, "version 1\nrejected: line 18: grammar\n"),
 ];
 
-const OVER_BRANCHED: [Change; 3] = [
+const OVER_BRANCHED: &[Change] = &[
     (0, &[], 0, "version 1\naccepted: optimal 3\n"),
     (16, &["4 2 0 2"], 1, "version 1\nrejected: line 16: step\n"),
     (16, &[], 1, "version 1\nrejected: line 16: close\n"),
 ];
 
-const OVER_STEPPED: [Change; 2] = [
+const OVER_STEPPED: &[Change] = &[
     (0, &[], 0, "version 1\naccepted: optimal 3\n"),
     (15, &["10 1 0 2"], 1, "version 1\nrejected: line 15: step\n"),
 ];
 
-const OVER_NEVER: [Change; 2] = [
+const OVER_NEVER: &[Change] = &[
     (0, &[], 0, "version 1\naccepted: no plan\n"),
     (1, &["cpt 2"], 0, "version 2\naccepted: no plan\n"),
 ];
 
-const OVER_AT_ONCE: [Change; 1] = [(0, &[], 0, "version 1\naccepted: optimal 0\n")];
+const OVER_AT_ONCE: &[Change] = &[(0, &[], 0, "version 1\naccepted: optimal 0\n")];
 
 /// The goal has a finite value, as the task has another start.
-const OVER_AT_HAND: [Change; 2] = [
+const OVER_AT_HAND: &[Change] = &[
     (0, &[], 1, "version 1\nrejected: line 5: pair\n"),
     (5, &["h 0"], 1, "version 1\nrejected: line 2: goal\n"),
 ];
 
 /// A certificate has the numbers of the kept task, which `ground` writes.
-const OVER_PRUNED: [Change; 2] = [
+const OVER_PRUNED: &[Change] = &[
     (0, &[], 0, "version 1\naccepted: optimal 3\n"),
     (3, &["task 4 3"], 1, "version 1\nrejected: line 3: task\n"),
 ];
@@ -337,7 +336,7 @@ const SHUT: &[&str] = &[
     "end",
 ];
 
-const OVER_SHUT: [Change; 2] = [
+const OVER_SHUT: &[Change] = &[
     (0, &[], 0, "version 2\naccepted: optimal 5\n"),
     (6, &["2 1"], 1, "version 2\nrejected: line 4: plan\n"),
 ];
@@ -384,11 +383,22 @@ fn expect_text<'a>(
         status,
         text,
     };
-    expect(rt, alloc, &case, 1)?;
-    expect(rt, alloc, &case, 2)?;
-    expect(rt, alloc, &case, 3)?;
-    expect(rt, alloc, &case, 7)?;
-    expect(rt, alloc, &case, 64)
+    expect_in_pieces(rt, alloc, &case, &[1, 2, 3, 7, 64])
+}
+
+fn expect_in_pieces(
+    rt: &impl Abort,
+    alloc: Global,
+    case: &Case,
+    sizes: &[usize],
+) -> Result<(), Fail> {
+    for most in sizes {
+        if *most < 1 {
+            return Err("no piece")?;
+        }
+        expect(rt, alloc, case, *most)?;
+    }
+    Ok(())
 }
 
 /// Checks the lines with each of the changes over the domain and the problem.
@@ -410,49 +420,52 @@ fn expect_changes(
 #[test]
 fn certificates_of_an_optimal_plan(rt: HostRuntime) -> Result<(), Fail> {
     let alloc = rt.alloc();
-    expect_changes(&rt, alloc, KEY, BOTH, OPTIMAL, &OVER_OPTIMAL)?;
-    expect_changes(&rt, alloc, KEY, BOTH, OPTIMAL_IN_RUNS, &OVER_RUNS)
+    expect_changes(&rt, alloc, KEY, BOTH, OPTIMAL, OVER_OPTIMAL)?;
+    expect_changes(&rt, alloc, KEY, BOTH, OPTIMAL_IN_RUNS, OVER_RUNS)
 }
 
-#[test]
-fn certificates_of_a_refuted_bound(rt: HostRuntime) -> Result<(), Fail> {
-    let alloc = rt.alloc();
-    expect_changes(&rt, alloc, KEY, BOTH, REFUTED, &OVER_REFUTED)?;
-    // With the tree's own bound the root is not dead.
-    let text = text_with(alloc, REFUTED, 2, &["claim none-up-to 6"])?;
+/// With the tree's own bound the root is not dead.
+fn expect_open_root(rt: &impl Abort, alloc: Global, lines: &[&str]) -> Result<(), Fail> {
+    let text = text_with(alloc, lines, 2, &["claim none-up-to 6"])?;
     let Some(head) = text.as_str().strip_suffix("tree 5\nclose\nend\n") else {
         return Err("other lines")?;
     };
     let text = format!(in alloc; "{head}tree 6\nclose\nend\n")?;
     let rejected = "version 1\nrejected: line 13: close\n";
-    expect_text(&rt, alloc, KEY, BOTH, text.as_str(), 1, rejected)
+    expect_text(rt, alloc, KEY, BOTH, text.as_str(), 1, rejected)
+}
+
+#[test]
+fn certificates_of_a_refuted_bound(rt: HostRuntime) -> Result<(), Fail> {
+    expect_changes(&rt, rt.alloc(), KEY, BOTH, REFUTED, OVER_REFUTED)?;
+    expect_open_root(&rt, rt.alloc(), REFUTED)
 }
 
 #[test]
 fn certificates_of_a_spent_search(rt: HostRuntime) -> Result<(), Fail> {
-    expect_changes(&rt, rt.alloc(), TURNS, ALL_THREE, SPENT, &OVER_SPENT)
+    expect_changes(&rt, rt.alloc(), TURNS, ALL_THREE, SPENT, OVER_SPENT)
 }
 
 #[test]
 fn certificates_with_a_branch_or_with_steps(rt: HostRuntime) -> Result<(), Fail> {
     let alloc = rt.alloc();
-    expect_changes(&rt, alloc, CHAIN, LINKED, BRANCHED, &OVER_BRANCHED)?;
-    expect_changes(&rt, alloc, CHAIN, LINKED, STEPPED, &OVER_STEPPED)
+    expect_changes(&rt, alloc, CHAIN, LINKED, BRANCHED, OVER_BRANCHED)?;
+    expect_changes(&rt, alloc, CHAIN, LINKED, STEPPED, OVER_STEPPED)
 }
 
 #[test]
 fn certificates_of_tasks_that_are_pruned_or_have_complements(rt: HostRuntime) -> Result<(), Fail> {
     let alloc = rt.alloc();
-    expect_changes(&rt, alloc, PRUNED, LINKED, BRANCHED, &OVER_PRUNED)?;
-    expect_changes(&rt, alloc, DOORS, ONE_DOOR, SHUT, &OVER_SHUT)
+    expect_changes(&rt, alloc, PRUNED, LINKED, BRANCHED, OVER_PRUNED)?;
+    expect_changes(&rt, alloc, DOORS, ONE_DOOR, SHUT, OVER_SHUT)
 }
 
 #[test]
 fn certificates_without_a_search(rt: HostRuntime) -> Result<(), Fail> {
     let alloc = rt.alloc();
-    expect_changes(&rt, alloc, STILL, OUT_OF_REACH, NEVER, &OVER_NEVER)?;
-    expect_changes(&rt, alloc, STILL, AT_HAND, AT_ONCE, &OVER_AT_ONCE)?;
-    expect_changes(&rt, alloc, STILL, AT_HAND, NEVER, &OVER_AT_HAND)
+    expect_changes(&rt, alloc, STILL, OUT_OF_REACH, NEVER, OVER_NEVER)?;
+    expect_changes(&rt, alloc, STILL, AT_HAND, AT_ONCE, OVER_AT_ONCE)?;
+    expect_changes(&rt, alloc, STILL, AT_HAND, NEVER, OVER_AT_HAND)
 }
 
 /// Checks each proper front of the lines: the line that is cut, or that is not there, has no form.
@@ -492,38 +505,44 @@ fn a_front_of_a_certificate_ends_too_early(rt: HostRuntime) -> Result<(), Fail> 
     expect_fronts(&rt, rt.alloc(), TURNS, ALL_THREE, SPENT)
 }
 
-#[test]
-fn the_certificate_is_opened_once_the_task_is_made(rt: HostRuntime) -> Result<(), Fail> {
-    let absent = Case {
+const NOT_OPENED: [Case<'static>; 2] = [
+    Case {
         words: CHECK,
         files: &[("d", KEY), ("p", BOTH)],
         status: 7,
         text: "fault: read\n",
-    };
-    expect(&rt, rt.alloc(), &absent, 64)?;
-    let faulty = Case {
+    },
+    Case {
         words: CHECK,
         files: &[("d", KEY), ("p", "(define")],
         status: 4,
         text: "fault: problem byte 0: unclosed\n",
-    };
-    expect(&rt, rt.alloc(), &faulty, 64)
-}
+    },
+];
 
 #[test]
-fn nothing_is_read_behind_a_fault(rt: HostRuntime) -> Result<(), Fail> {
-    let alloc = rt.alloc();
-    let cert = text_with(alloc, OPTIMAL, 1, &["cpt 3"])?;
+fn the_certificate_is_opened_once_the_task_is_made(rt: HostRuntime) -> Result<(), Fail> {
+    expect_all(&rt, rt.alloc(), &NOT_OPENED)
+}
+
+/// Whether the certificate is rejected at its first line, and nothing is read behind the first piece of it, which the
+/// fifteenth call gives: the next one would fail.
+fn is_read_no_further(alloc: Global, cert: &str) -> Result<bool, Fail> {
     let words = words_of(alloc, CHECK)?;
-    let files = [("d", KEY), ("p", BOTH), ("c", cert.as_str())];
-    // The fault stands in the first piece of the certificate, which the fifteenth call gives; the next one would fail.
+    let files = [("d", KEY), ("p", BOTH), ("c", cert)];
     let mut lib = CountingLibrary {
         inner: library(alloc, &files, &[15], 64)?,
         calls: 0,
     };
     let mut out = output(alloc, &[])?;
-    assert_eq!(rt; run(alloc, &words, &mut lib, &mut out), 1);
-    assert_eq!(rt; lib.calls, 15);
-    assert_eq!(rt; out.written(), b"rejected: line 1: grammar\n".as_slice());
+    let status = status_of(alloc, &words, &mut lib, &mut out);
+    Ok(status == 1 && lib.calls == 15 && is_written(&out, "rejected: line 1: grammar\n"))
+}
+
+#[test]
+fn nothing_is_read_behind_a_fault(rt: HostRuntime) -> Result<(), Fail> {
+    let cert = text_with(rt.alloc(), OPTIMAL, 1, &["cpt 3"])?;
+    let is_so = is_read_no_further(rt.alloc(), cert.as_str())?;
+    assert!(rt; is_so);
     Ok(())
 }

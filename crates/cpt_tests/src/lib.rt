@@ -8,8 +8,6 @@ mod checks;
 #[cfg(test)]
 mod counting;
 #[cfg(test)]
-mod failing;
-#[cfg(test)]
 mod parts;
 #[cfg(test)]
 mod pddl;

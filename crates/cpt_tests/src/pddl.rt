@@ -1,14 +1,18 @@
 //! Faults of domain and problem texts, and the order in which files are opened.
 
-use crate::scene::{Case, expect, expect_all};
+use crate::scene::{Case, File, expect, expect_all};
+use std::alloc::Global;
+use std::process::Abort;
 use std::test::Fail;
 
 const LIST: &[&str] = &["ground", "d", "p"];
 
 const JUDGE: &[&str] = &["validate", "d", "p", "n"];
 
-/// A domain text, and the fault that is answered.
-const DOMAINS: [(&str, u8, &str); 17] = [
+/// A domain or a problem text, and the fault that is answered.
+type Faulty = (&'static str, u8, &'static str);
+
+const DOMAINS: &[Faulty] = &[
     ("", 4, "fault: domain byte 0: shape\n"),
     (")", 4, "fault: domain byte 0: unopened\n"),
     (
@@ -76,32 +80,46 @@ const DOMAINS: [(&str, u8, &str); 17] = [
     ("; nothing\n", 4, "fault: domain byte 10: shape\n"),
 ];
 
-#[test]
-fn faulty_domains(rt: HostRuntime) -> Result<(), Fail> {
-    for (domain, status, text) in DOMAINS {
-        // The problem is not opened: it is not there.
-        let listed = Case {
-            words: LIST,
-            files: &[("d", domain)],
-            status,
-            text,
-        };
-        let judged = Case {
-            words: JUDGE,
-            files: &[("d", domain)],
-            status,
-            text,
-        };
-        expect_all(&rt, rt.alloc(), &[listed, judged])?;
+/// The fault is answered whichever of the commands reads the files. What they name besides is not opened: it is not there.
+fn expect_faulty<'a>(
+    rt: &impl Abort,
+    alloc: Global,
+    words: &'a [&'a str],
+    files: &'a [File<'a>],
+    faulty: &Faulty,
+) -> Result<(), Fail> {
+    let case = Case {
+        words,
+        files,
+        status: faulty.1,
+        text: faulty.2,
+    };
+    expect(rt, alloc, &case, 7)
+}
+
+fn expect_domain(rt: &impl Abort, alloc: Global, faulty: &Faulty) -> Result<(), Fail> {
+    let files: &[File] = &[("d", faulty.0)];
+    expect_faulty(rt, alloc, LIST, files, faulty)?;
+    expect_faulty(rt, alloc, JUDGE, files, faulty)
+}
+
+fn expect_domains(rt: &impl Abort, alloc: Global, domains: &[Faulty]) -> Result<(), Fail> {
+    for faulty in domains {
+        expect_domain(rt, alloc, faulty)?;
     }
     Ok(())
+}
+
+#[test]
+fn faulty_domains(rt: HostRuntime) -> Result<(), Fail> {
+    expect_domains(&rt, rt.alloc(), DOMAINS)
 }
 
 const DOMAIN: &str =
     "(define (domain d) (:predicates (p)) (:functions (f)) (:durative-action a :parameters () :duration (= ?duration (f)) :condition () :effect (at end (p))))";
 
-/// A problem text of this domain, and the fault that is answered.
-const PROBLEMS: [(&str, u8, &str); 8] = [
+/// Problem texts of this domain.
+const PROBLEMS: &[Faulty] = &[
     ("", 4, "fault: problem byte 0: shape\n"),
     ("(define", 4, "fault: problem byte 0: unclosed\n"),
     (
@@ -136,40 +154,40 @@ const PROBLEMS: [(&str, u8, &str); 8] = [
     ),
 ];
 
-#[test]
-fn faulty_problems(rt: HostRuntime) -> Result<(), Fail> {
-    for (problem, status, text) in PROBLEMS {
-        let listed = Case {
-            words: LIST,
-            files: &[("d", DOMAIN), ("p", problem)],
-            status,
-            text,
-        };
-        // The plan is not opened: it is not there.
-        let judged = Case {
-            words: JUDGE,
-            files: &[("d", DOMAIN), ("p", problem)],
-            status,
-            text,
-        };
-        expect_all(&rt, rt.alloc(), &[listed, judged])?;
+fn expect_problem(rt: &impl Abort, alloc: Global, faulty: &Faulty) -> Result<(), Fail> {
+    let files: &[File] = &[("d", DOMAIN), ("p", faulty.0)];
+    expect_faulty(rt, alloc, LIST, files, faulty)?;
+    expect_faulty(rt, alloc, JUDGE, files, faulty)
+}
+
+fn expect_problems(rt: &impl Abort, alloc: Global, problems: &[Faulty]) -> Result<(), Fail> {
+    for faulty in problems {
+        expect_problem(rt, alloc, faulty)?;
     }
     Ok(())
 }
 
 #[test]
-fn files_that_are_not_held_cannot_be_read(rt: HostRuntime) -> Result<(), Fail> {
-    let no_domain = Case {
+fn faulty_problems(rt: HostRuntime) -> Result<(), Fail> {
+    expect_problems(&rt, rt.alloc(), PROBLEMS)
+}
+
+const NOT_HELD: [Case<'static>; 2] = [
+    Case {
         words: LIST,
         files: &[("p", "")],
         status: 7,
         text: "fault: read\n",
-    };
-    let no_problem = Case {
+    },
+    Case {
         words: JUDGE,
         files: &[("d", DOMAIN), ("n", "")],
         status: 7,
         text: "fault: read\n",
-    };
-    expect_all(&rt, rt.alloc(), &[no_domain, no_problem])
+    },
+];
+
+#[test]
+fn files_that_are_not_held_cannot_be_read(rt: HostRuntime) -> Result<(), Fail> {
+    expect_all(&rt, rt.alloc(), &NOT_HELD)
 }

@@ -1,6 +1,8 @@
 //! Plans over ground task texts.
 
 use crate::scene::{Case, File, expect, expect_all};
+use std::alloc::Global;
+use std::process::Abort;
 use std::test::Fail;
 
 /// Two actions that share a resource, which the second uses up.
@@ -20,7 +22,7 @@ pub const ASKED: &[&str] = &["validate-task", "t", "p"];
 /// A plan text over the first task, and what is answered.
 type Answered = (&'static str, u8, &'static str);
 
-const OVER_SHARED: [Answered; 26] = [
+const OVER_SHARED: &[Answered] = &[
     // Valid, in whatever order and spelling.
     ("0: (a)\n5: (b)\n", 0, "valid 8\n"),
     ("5: (b)\n0: (a)\n", 0, "valid 8\n"),
@@ -78,41 +80,50 @@ const OVER_SHARED: [Answered; 26] = [
     ),
 ];
 
-#[test]
-fn plans_over_two_actions_that_share_a_resource(rt: HostRuntime) -> Result<(), Fail> {
-    for answered in &OVER_SHARED {
-        let case = Case {
-            words: ASKED,
-            files: &[SHARED, ("p", answered.0)],
-            status: answered.1,
-            text: answered.2,
-        };
-        expect(&rt, rt.alloc(), &case, 3)?;
+fn expect_answered(rt: &impl Abort, alloc: Global, answered: &Answered) -> Result<(), Fail> {
+    let case = Case {
+        words: ASKED,
+        files: &[SHARED, ("p", answered.0)],
+        status: answered.1,
+        text: answered.2,
+    };
+    expect(rt, alloc, &case, 3)
+}
+
+fn expect_plans(rt: &impl Abort, alloc: Global, plans: &[Answered]) -> Result<(), Fail> {
+    for answered in plans {
+        expect_answered(rt, alloc, answered)?;
     }
     Ok(())
 }
 
 #[test]
+fn plans_over_two_actions_that_share_a_resource(rt: HostRuntime) -> Result<(), Fail> {
+    expect_plans(&rt, rt.alloc(), OVER_SHARED)
+}
+
+const OVER_KEY: [Case<'static>; 3] = [
+    Case {
+        words: ASKED,
+        files: &[KEY, ("p", "0: (u)\n1: (v2)\n3: (u)\n4: (v1)\n")],
+        status: 0,
+        text: "valid 6\n",
+    },
+    Case {
+        words: ASKED,
+        files: &[KEY, ("p", "0: (u)\n1: (v1)\n3: (v2)\n")],
+        status: 1,
+        text: "invalid: line 3 lacks (k) at 3\n",
+    },
+    Case {
+        words: ASKED,
+        files: &[("t", "task 1 0\natom (g)\ninit 0\ngoal 0\n"), ("p", "")],
+        status: 0,
+        text: "valid 0\n",
+    },
+];
+
+#[test]
 fn plans_over_a_key_that_is_used_up(rt: HostRuntime) -> Result<(), Fail> {
-    let cases = [
-        Case {
-            words: ASKED,
-            files: &[KEY, ("p", "0: (u)\n1: (v2)\n3: (u)\n4: (v1)\n")],
-            status: 0,
-            text: "valid 6\n",
-        },
-        Case {
-            words: ASKED,
-            files: &[KEY, ("p", "0: (u)\n1: (v1)\n3: (v2)\n")],
-            status: 1,
-            text: "invalid: line 3 lacks (k) at 3\n",
-        },
-        Case {
-            words: ASKED,
-            files: &[("t", "task 1 0\natom (g)\ninit 0\ngoal 0\n"), ("p", "")],
-            status: 0,
-            text: "valid 0\n",
-        },
-    ];
-    expect_all(&rt, rt.alloc(), &cases)
+    expect_all(&rt, rt.alloc(), &OVER_KEY)
 }

@@ -3,12 +3,13 @@
 use crate::plans::ASKED;
 use crate::scene::{Case, expect};
 use std::alloc::{AllocError, Global};
+use std::process::Abort;
 use std::test::Fail;
 
 /// A task text, and what is answered, whatever the plan.
 type Answered = (&'static str, &'static str);
 
-const FAULTY: [Answered; 24] = [
+const FAULTY: &[Answered] = &[
     ("", "fault: task line 1: line\n"),
     ("task 0 0\n", "fault: task line 2: line\n"),
     ("task 0 0\ninit\ngoal", "fault: task line 3: line\n"),
@@ -102,17 +103,25 @@ fn a_list_of_sixty_five_preconditions_passes_the_limit(rt: HostRuntime) -> Resul
     expect(&rt, rt.alloc(), &case, 64)
 }
 
-#[test]
-fn the_first_faulty_line_of_a_task_is_answered(rt: HostRuntime) -> Result<(), Fail> {
-    for answered in &FAULTY {
-        let limit = answered.1.starts_with("fault: limit");
-        let case = Case {
-            words: ASKED,
-            files: &[("t", answered.0), ("p", "no plan")],
-            status: if limit { 6 } else { 4 },
-            text: answered.1,
-        };
-        expect(&rt, rt.alloc(), &case, 64)?;
+fn expect_answered(rt: &impl Abort, alloc: Global, answered: &Answered) -> Result<(), Fail> {
+    let limit = answered.1.starts_with("fault: limit");
+    let case = Case {
+        words: ASKED,
+        files: &[("t", answered.0), ("p", "no plan")],
+        status: if limit { 6 } else { 4 },
+        text: answered.1,
+    };
+    expect(rt, alloc, &case, 64)
+}
+
+fn expect_faults(rt: &impl Abort, alloc: Global, texts: &[Answered]) -> Result<(), Fail> {
+    for answered in texts {
+        expect_answered(rt, alloc, answered)?;
     }
     Ok(())
+}
+
+#[test]
+fn the_first_faulty_line_of_a_task_is_answered(rt: HostRuntime) -> Result<(), Fail> {
+    expect_faults(&rt, rt.alloc(), FAULTY)
 }
